@@ -1,0 +1,6 @@
+pub mod Bytes
+pub mod Refusals
+pub mod Keywords
+pub mod Integers
+pub mod Words
+pub mod Fronts

@@ -1,0 +1,10 @@
+-- The number of each refusal.
+use Prim.Native.Nat.{ℕ}
+use Rattle.text.specs.declared.refusal.Refusal.{Refusal}
+use Rattle.text.specs.declared.refusal.Refusal.the-variants.{Symbol, Integer, Bracket, Limit}
+
+abbrev pub numberOf : Refusal → ℕ
+numberOf Symbol = 1
+numberOf Integer = 2
+numberOf Bracket = 3
+numberOf Limit = 5

@@ -1,0 +1,17 @@
+// The text layer: a script's bytes as tokens. Nothing is copied or allocated; a token is a part of the text.
+mod bracket;
+mod bytes;
+mod front;
+mod integer;
+mod keyword;
+mod limits;
+mod refusal;
+mod token;
+mod word;
+
+pub use bracket::Bracket;
+pub use keyword::Keyword;
+pub use refusal::Refusal;
+pub use refusal::Refused;
+pub use token::Token;
+pub use token::TokenKind;

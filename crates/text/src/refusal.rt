@@ -1,0 +1,31 @@
+// Why a text is refused, and where.
+ghost use mathlib.Core.Path.{_≡_};
+ghost use Rattle.text.specs.Refusals.{numberOf};
+
+// Each case with its number.
+#[derive(Clone, Copy)]
+pub enum Refusal {
+    // a symbol that is not closed, or has a backslash before another byte than ' or a backslash: at its first quote
+    Symbol = 1,
+    // an integer outside 32 bits signed: at its first byte
+    Integer = 2,
+    // a closing bracket that does not match, at itself; or that is missing, at the text's length
+    Bracket = 3,
+    // a limit passed: at what passes it
+    Limit = 5,
+}
+
+impl Refusal {
+    pub fn number(self) -> u8
+        ensures { λ r. ⌜ r ≡ numberOf self ⌝ }
+    {
+        self as u8
+    }
+}
+
+// A refusal with its place, the offset from 0 of the byte that it is about.
+#[derive(Clone, Copy)]
+pub struct Refused {
+    pub refusal: Refusal,
+    pub place: usize,
+}
