@@ -1,2 +1,4 @@
 pub mod Runs
 pub mod Digits
+pub mod FrontLaws
+pub mod TokenLaws

@@ -4,3 +4,4 @@ pub mod Keywords
 pub mod Integers
 pub mod Words
 pub mod Fronts
+pub mod Tokens

@@ -1,6 +1,6 @@
 // What stands at the front of a text that begins with no separator.
 ghost use mathlib.Core.Path.{_≡_};
-ghost use Prim.Native.Nat.{ℕ, _<_, _≤_};
+ghost use Prim.Native.Nat.{_+_};
 ghost use lib.ListN.{length};
 ghost use Rattle.text.specs.Fronts.{Within, frontOf, symbolFront, wordFront};
 use super::Refusal;

@@ -5,12 +5,14 @@ mod front;
 mod integer;
 mod keyword;
 mod limits;
+mod reader;
 mod refusal;
 mod token;
 mod word;
 
 pub use bracket::Bracket;
 pub use keyword::Keyword;
+pub use reader::Reader;
 pub use refusal::Refusal;
 pub use refusal::Refused;
 pub use token::Token;

@@ -1,0 +1,49 @@
+use mathlib.Core.Path.{_≡_, refl, sym, ap, _∙_}
+use Prim.Native.Nat.{_+_, _-_, _≤_, _<_}
+use native.Mathlib.Omega.{arith}
+use lib.ListN.{length, drop, take}
+use Rattle.std.proofs.shelf.Lists.{take-rest, drop-drop, length-drop}
+use Rattle.text.specs.Tokens.{also, lexeme, lexed}
+use Rattle.text.proofs.TokenLaws.{next-is, next-end, token-some}
+use Rattle.text.proofs.reader.Reader.next.Needs as need
+
+pub returns-in-Nothing : need.returns-in-Nothing
+returns-in-Nothing c =
+    let s = c .args .self .now .text .now in
+    let i = c .args .self .now .place in
+    let n = c .separator-len .result in
+    let run = c .separator-len .ensures .value in
+    let ended = next-end s i n run (c .in-Nothing .ensures tt .value) in
+    let most = c .separator-len .ensures .within in
+    let rest = ap length (take-rest s i) in
+    let size = length-drop i s in
+    record { reads = (next-is s i n run _ (c .in-Nothing .ensures tt .value), omega arith); text = refl }
+
+pub returns-in-Refused : need.returns-in-Refused
+returns-in-Refused c =
+    let s = c .args .self .now .text .now in
+    let i = c .args .self .now .place in
+    record { reads = (next-is s i _ (c .separator-len .ensures .value) _ (c .in-Refused .ensures tt .value), refl); text = refl }
+
+pub returns-in-Token : need.returns-in-Token
+returns-in-Token c =
+    let s = c .args .self .now .text .now in
+    let i = c .args .self .now .place in
+    let j = i + c .separator-len .result in
+    let n = c .in-Token .size in
+    let k = c .in-Token .kind in
+    let front = c .in-Token .ensures tt .value in
+    let some = token-some (take (length s - j) (drop j s)) k n (sym front) in
+    let inside = c .in-Token .ensures tt .within in
+    let rest = ap length (take-rest s j) in
+    let size = length-drop j s in
+    let same : n ≡ j + n - j = omega arith in
+    record {
+      reads = (
+        next-is s i _ (c .separator-len .ensures .value) _ front
+        ∙ ap (λ m. also (lexeme k j (take m (drop j s))) (lexed 0 (j + n) (drop n (drop j s)))) same
+        ∙ ap (λ t. also (lexeme k j (take (j + n - j) (drop j s))) (lexed 0 (j + n) t)) (drop-drop n j s),
+        omega arith,
+        omega arith);
+      text = refl;
+    }

@@ -1,0 +1,44 @@
+// The tokens of a text one by one.
+ghost use mathlib.Core.Path.{_≡_};
+ghost use Rattle.text.specs.Tokens.{Reads};
+use super::Reader;
+use super::super::Refused;
+use super::super::Token;
+use super::super::bytes::separator_len;
+use super::super::front::Front;
+use super::super::front::front_of;
+
+impl<'t> Reader<'t> {
+    // A reader at the text's beginning.
+    pub fn new(text: &'t [u8]) -> Reader<'t>
+        ensures text { λ r. ⌜ now (r .text) ≡ now (text .entry) ⌝ }
+        ensures place { λ r. ⌜ r .place ≡ 0 ⌝ }
+    {
+        Reader { text, place: 0 }
+    }
+
+    // The next token, or none at the end. A refusal leaves the reader where it was.
+    pub fn next(&mut self) -> Result<Option<Token<'t>>, Refused>
+        ensures reads { λ r. ⌜ Reads (now (now (self .entry) .text)) (now (self .entry) .place) r (now (self .exit) .place) ⌝ }
+        ensures text { λ _. ⌜ now (self .exit) .text ≡ now (self .entry) .text ⌝ }
+    {
+        let text = self.text;
+        let place = self.place + separator_len(&text[self.place..]);
+        match front_of(&text[place..]) {
+            Front::Nothing => {
+                self.place = place;
+                Ok(None)
+            }
+            Front::Refused(refusal) => Err(Refused { refusal, place }),
+            Front::Token(kind, size) => {
+                let end = place + size;
+                self.place = end;
+                Ok(Some(Token {
+                    kind,
+                    place,
+                    bytes: &text[place..end],
+                }))
+            }
+        }
+    }
+}
