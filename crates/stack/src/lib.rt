@@ -65,7 +65,7 @@ impl<'a, T: Copy> Stack<'a, T> {
 
     // `x` goes on top, unless all room is used: then nothing changes.
     pub fn push(&mut self, x: T) -> Result<(), Full>
-        ensures fits { λ r. ⌜ elim r [ Ok _ ↦ length (items (now (self .entry))) < room-of (now (self .entry)) | Err _ ↦ length (items (now (self .entry))) ≡ room-of (now (self .entry)) ] ⌝ }
+        ensures fits { λ r. ⌜ elim r [ Ok _ ↦ length (tops (now (self .entry))) < room-of (now (self .entry)) | Err _ ↦ length (tops (now (self .entry))) ≡ room-of (now (self .entry)) ] ⌝ }
         ensures items { λ r. ⌜ elim r [ Ok _ ↦ items (now (self .exit)) ≡ items (now (self .entry)) ++ x ∷ [] | Err _ ↦ items (now (self .exit)) ≡ items (now (self .entry)) ] ⌝ }
         ensures tops { λ r. ⌜ elim r [ Ok _ ↦ tops (now (self .exit)) ≡ x ∷ tops (now (self .entry)) | Err _ ↦ tops (now (self .exit)) ≡ tops (now (self .entry)) ] ⌝ }
         ensures room { λ _. ⌜ room-of (now (self .exit)) ≡ room-of (now (self .entry)) ⌝ }
