@@ -1,0 +1,3 @@
+// The answer of a push that found no room.
+#[derive(Clone, Copy)]
+pub struct Full;
