@@ -2,3 +2,4 @@ pub mod Runs
 pub mod Digits
 pub mod FrontLaws
 pub mod TokenLaws
+pub mod ScanLaws

@@ -5,3 +5,4 @@ pub mod Integers
 pub mod Words
 pub mod Fronts
 pub mod Tokens
+pub mod Scans

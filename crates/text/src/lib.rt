@@ -5,8 +5,10 @@ mod front;
 mod integer;
 mod keyword;
 mod limits;
+mod nesting;
 mod reader;
 mod refusal;
+mod scanning;
 mod token;
 mod word;
 
@@ -15,5 +17,6 @@ pub use keyword::Keyword;
 pub use reader::Reader;
 pub use refusal::Refusal;
 pub use refusal::Refused;
+pub use scanning::scan;
 pub use token::Token;
 pub use token::TokenKind;
