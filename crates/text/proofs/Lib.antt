@@ -3,3 +3,7 @@ pub mod Digits
 pub mod FrontLaws
 pub mod TokenLaws
 pub mod ScanLaws
+pub mod GrammarBytes
+pub mod GrammarSymbols
+pub mod GrammarTokens
+pub mod GrammarLaws

@@ -35,7 +35,7 @@ skip (suc n) i [] = refl
 skip (suc n) i (b ∷ s) = let e : i + 1 + n ≡ i + suc n = omega arith in skip n (i + 1) s ∙ ap (λ j. lexed 0 j (drop n s)) e
 
 -- a separator begins no token
-separator-begins-none : (k : Class) (text rest : List ℕ) → separates k false ≡ true → frontBy k text rest ≡ Nothing
+pub separator-begins-none : (k : Class) (text rest : List ℕ) → separates k false ≡ true → frontBy k text rest ≡ Nothing
 separator-begins-none Blank text rest e = refl
 separator-begins-none Newline text rest e = refl
 separator-begins-none Comment text rest e = refl
@@ -97,7 +97,7 @@ token-some (b ∷ s) k n e = go (classOf b) refl
         omega arith
 
 -- separators are passed over whole
-over-separators : (i : ℕ) (s : List ℕ) → lexed 0 i s ≡ lexed 0 (i + separatorRun false s) (drop (separatorRun false s) s)
+pub over-separators : (i : ℕ) (s : List ℕ) → lexed 0 i s ≡ lexed 0 (i + separatorRun false s) (drop (separatorRun false s) s)
 over-separators i [] = refl
 over-separators i (b ∷ s) = go (separates (classOf b) false) refl
   where
@@ -126,7 +126,7 @@ ends-outside Quote o e = refl
 ends-outside Word o e = refl
 
 -- behind a run of separators no separator begins
-run-whole : (o : Bool) (s : List ℕ) → separatorRun false (drop (separatorRun o s) s) ≡ 0
+pub run-whole : (o : Bool) (s : List ℕ) → separatorRun false (drop (separatorRun o s) s) ≡ 0
 run-whole o [] = refl
 run-whole o (b ∷ s) = go (separates (classOf b) o) refl (run-whole (commentAfter (classOf b) o) s)
   where
@@ -150,7 +150,7 @@ continued i s Nothing = done
 continued i s (Refused e) = fault e i
 continued i s (Token k n) = also (lexeme k i (take n s)) (lexed 0 (i + n) (drop n s))
 
-lead : (i : ℕ) (s : List ℕ) → separatorRun false s ≡ 0 → lexed 0 i s ≡ continued i s (frontOf s)
+pub lead : (i : ℕ) (s : List ℕ) → separatorRun false s ≡ 0 → lexed 0 i s ≡ continued i s (frontOf s)
 lead i [] z = refl
 lead i (b ∷ s) z = go (frontOf (b ∷ s)) refl
   where
@@ -164,6 +164,11 @@ lead i (b ∷ s) z = go (frontOf (b ∷ s)) refl
         let on : i + 1 + m ≡ i + suc m = omega arith in
         here ∙ ap (λ j. also (lexeme k i (take (suc m) (b ∷ s))) (lexed j (i + 1) s)) less
         ∙ ap (also (lexeme k i (take (suc m) (b ∷ s)))) (skip m (i + 1) s ∙ ap (λ j. lexed 0 j (drop m s)) on)
+
+-- where neither a separator nor a token begins, nothing is left
+pub none-left : (s : List ℕ) → separatorRun false s ≡ 0 → frontOf s ≡ Nothing → s ≡ []
+none-left [] z e = refl
+none-left (b ∷ s) z e = absurd (begins-some (classOf b) (b ∷ s) s (no-run b s z) e)
 
 -- What the code's parts answer, behind n bytes of separators.
 module _ (text : List ℕ) (at n : ℕ) (e : n ≡ separatorRun false (take (length text - at) (drop at text))) where
@@ -182,8 +187,6 @@ module _ (text : List ℕ) (at n : ℕ) (e : n ≡ separatorRun false (take (len
       ∙ ap (continued (at + n) (drop (at + n) text)) (sym (h ∙ ap frontOf (take-rest text (at + n))))
 
   pub next-end : Nothing ≡ frontOf (take (length text - (at + n)) (drop (at + n) text)) → length text ≤ at + n
-  next-end h = go (drop (at + n) text) refl
-    where
-      go : (s : List ℕ) → drop (at + n) text ≡ s → length text ≤ at + n
-      go [] p = omega (arith, ap length p, length-drop (at + n) text)
-      go (b ∷ s) p = absurd (begins-some (classOf b) (b ∷ s) s (no-run b s (ap (separatorRun false) (sym p) ∙ ended)) (ap frontOf (sym p) ∙ ap frontOf (sym (take-rest text (at + n))) ∙ sym h))
+  next-end h =
+      let none = none-left (drop (at + n) text) ended (ap frontOf (sym (take-rest text (at + n))) ∙ sym h) in
+      omega (arith, ap length none, length-drop (at + n) text)

@@ -6,3 +6,4 @@ pub mod Words
 pub mod Fronts
 pub mod Tokens
 pub mod Scans
+pub mod Grammar

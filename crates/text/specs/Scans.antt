@@ -40,10 +40,14 @@ abbrev pub precede : Lexeme → Result (List Lexeme) Refused → Result (List Le
 precede t (Ok ts) = Ok (t ∷ ts)
 precede t (Err r) = Err r
 
+-- at the end of a text of so many bytes no bracket is open
+abbrev pub allClosed : ℕ → List Bracket → Result (List Lexeme) Refused
+allClosed end [] = Ok []
+allClosed end (newest ∷ opened) = Err (refusedAt refusal.Bracket end)
+
 -- The pass over the tokens of a text of so many bytes, with these brackets open.
 abbrev pub balanced : ℕ → List Bracket → Lexed → Result (List Lexeme) Refused
-balanced end [] done = Ok []
-balanced end (newest ∷ opened) done = Err (refusedAt refusal.Bracket end)
+balanced end opened done = allClosed end opened
 balanced end opened (fault e i) = Err (refusedAt e i)
 balanced end opened (also t rest) = elim (nesting (t .kind) opened) [
     Ok after ↦ precede t (balanced end after rest)

@@ -2,6 +2,7 @@
 ghost use mathlib.Core.Path.{_≡_};
 ghost use mathlib.Core.List.{[]};
 ghost use lib.ListN.{length};
+ghost use Rattle.text.specs.Grammar.{Lawful};
 ghost use Rattle.text.specs.Scans.{scan as scanned, balanced, counted};
 ghost use Rattle.text.specs.Tokens.{lexedFrom};
 use super::Bracket;
@@ -40,6 +41,7 @@ fn pass(text: &[u8]) -> Result<usize, Refused>
 // How many tokens the text has, or the first refusal.
 pub fn scan(text: &[u8]) -> Result<usize, Refused>
     ensures answer { λ r. ⌜ r ≡ counted (scanned (now (text .entry))) ⌝ }
+    ensures law { λ r. ⌜ Lawful (now (text .entry)) r ⌝ }
 {
     if text.len() > TEXT {
         return Err(Refused {
