@@ -7,3 +7,4 @@ pub mod Fronts
 pub mod Tokens
 pub mod Scans
 pub mod Grammar
+pub mod Reading

@@ -1,18 +1,12 @@
 -- The tokens of a text, in order.
-use mathlib.Core.Path.{_≡_}
 use mathlib.Core.Bool.{false}
 use mathlib.Core.List.{List, [], _∷_}
-use Prim.Native.Nat.{ℕ, zero, suc, _+_, _-_, _<_, _≤_}
-use lib.ListN.{length, drop, take}
-use Rattle.std.specs.declared.option.Option.{Option}
-use Rattle.std.specs.declared.option.Option.the-variants.{Some, None}
-use Rattle.std.specs.declared.result.Result.{Result}
-use Rattle.std.specs.declared.result.Result.the-variants.{Ok, Err}
+use Prim.Native.Nat.{ℕ, zero, suc, _+_, _-_}
+use lib.ListN.{drop, take}
 use Rattle.text.specs.Bytes.{separatorRun}
 use Rattle.text.specs.Fronts.{frontOf}
 use Rattle.text.specs.declared.front.Front.the-variants as front
 use Rattle.text.specs.declared.refusal.Refusal.{Refusal}
-use Rattle.text.specs.declared.refusal.Refused.{Refused}
 use Rattle.text.specs.declared.token.Token.{Token}
 use Rattle.text.specs.declared.token.TokenKind.{TokenKind}
 
@@ -47,9 +41,3 @@ lexed zero i (b ∷ s) = elim (frontOf (b ∷ s)) [
 -- the tokens of a text from a place on
 abbrev pub lexedFrom : List ℕ → ℕ → Lexed
 lexedFrom text place = lexed 0 place (drop place text)
-
--- What reading one token from a place answers, and the place where it leaves the reader.
-abbrev pub Reads : List ℕ → ℕ → Result (Option Token) Refused → ℕ → Type 0
-Reads text place (Err r) after = (lexedFrom text place ≡ fault (r .refusal) (r .place)) × (after ≡ place)
-Reads text place (Ok None) after = (lexedFrom text place ≡ done) × (after ≡ length text)
-Reads text place (Ok (Some t)) after = (lexedFrom text place ≡ also (lexemeOf t) (lexedFrom text after)) × (place < after) × (after ≤ length text)

@@ -1,6 +1,6 @@
 // The tokens of a text one by one.
 ghost use mathlib.Core.Path.{_≡_};
-ghost use Rattle.text.specs.Tokens.{Reads};
+ghost use Rattle.text.specs.Reading.{Reads};
 use super::Reader;
 use super::super::Refused;
 use super::super::Token;

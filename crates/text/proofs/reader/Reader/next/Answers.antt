@@ -1,9 +1,12 @@
-use mathlib.Core.Path.{_≡_, refl, sym, ap, _∙_}
+use mathlib.Core.Path.{_≡_, refl, sym, ap, subst, _∙_}
 use Prim.Native.Nat.{_+_, _-_, _≤_, _<_}
 use native.Mathlib.Omega.{arith}
 use lib.ListN.{length, drop, take}
-use Rattle.std.proofs.shelf.Lists.{take-rest, drop-drop, length-drop}
+use Rattle.std.proofs.shelf.Lists.{take-rest, drop-drop, length-drop, length-take-le}
+use Rattle.text.specs.Fronts.{frontOf}
+use Rattle.text.specs.Grammar.{Spelt, Whole}
 use Rattle.text.specs.Tokens.{also, lexeme, lexed}
+use Rattle.text.proofs.GrammarTokens.{front-spelt}
 use Rattle.text.proofs.TokenLaws.{next-is, next-end, token-some}
 use Rattle.text.proofs.reader.Reader.next.Needs as need
 
@@ -32,18 +35,26 @@ returns-in-Token c =
     let j = i + c .separator-len .result in
     let n = c .in-Token .size in
     let k = c .in-Token .kind in
-    let front = c .in-Token .ensures tt .value in
-    let some = token-some (take (length s - j) (drop j s)) k n (sym front) in
-    let inside = c .in-Token .ensures tt .within in
-    let rest = ap length (take-rest s j) in
+    let x = drop j s in
+    let front = sym (c .in-Token .ensures tt .value ∙ ap frontOf (take-rest s j)) in
+    let some = token-some x k n front in
+    let sp = front-spelt x k n front in
+    let inside = sp .2 in
     let size = length-drop j s in
     let same : n ≡ j + n - j = omega arith in
+    let long : length (take (j + n - j) x) ≡ n = ap (λ m. length (take m x)) (sym same) ∙ length-take-le n x inside in
     record {
-      reads = (
-        next-is s i _ (c .separator-len .ensures .value) _ front
-        ∙ ap (λ m. also (lexeme k j (take m (drop j s))) (lexed 0 (j + n) (drop n (drop j s)))) same
-        ∙ ap (λ t. also (lexeme k j (take (j + n - j) (drop j s))) (lexed 0 (j + n) t)) (drop-drop n j s),
-        omega arith,
-        omega arith);
+      reads = record {
+        follows =
+          next-is s i _ (c .separator-len .ensures .value) _ (c .in-Token .ensures tt .value)
+          ∙ ap (λ m. also (lexeme k j (take m x)) (lexed 0 (j + n) (drop n x))) same
+          ∙ ap (λ t. also (lexeme k j (take (j + n - j) x)) (lexed 0 (j + n) t)) (drop-drop n j s);
+        forward = (omega arith, omega arith);
+        within = omega arith;
+        ends = ap (λ m. j + m) (sym long);
+        part = ap (λ m. take m x) (sym same ∙ sym long);
+        spelt = subst (λ m. Spelt k (take m x)) same (sp .0);
+        whole = subst (Whole k) (drop-drop n j s) (sp .1);
+      };
       text = refl;
     }
