@@ -73,9 +73,9 @@ impl<'a, T: Copy> Stack<'a, T> {
         ensures loan { λ _. ⌜ loan-of (now (self .exit)) ≡ loan-of (now (self .entry)) ⌝ }
     {
         if self.len < self.lent.len() {
-            let i = self.len;
-            self.lent[i] = x;
-            self.len = i + 1;
+            let next = self.len;
+            self.lent[next] = x;
+            self.len = next + 1;
             return Ok(());
         }
         Err(Full)

@@ -1,18 +1,22 @@
-use mathlib.Core.Path.{_≡_, refl, ap}
+use mathlib.Core.Path.{_≡_}
 use mathlib.Core.List.{[], _∷_, _++_}
 use native.Mathlib.Omega.{arith}
-use Prim.Native.Nat.{_+_}
-use lib.ListN.{length, take, set, length-take, length-set, length-reverse}
+use borrow.Author.Needs.{needs}
+use lib.ListN.{length, length-take, length-set, length-reverse}
 use Rattle.std.proofs.shelf.Lists.{take-more-set}
-use Rattle.stack.specs.Items.{items, slice-of}
+use Rattle.stack.specs.Items.{items, tops, slice-of}
 use Rattle.stack.proofs.Lists.{reverse-push}
 use Rattle.stack.proofs.Stack.push.Needs as need
 
 pub returns-then-self : need.returns-then-self
 returns-then-self g c =
-    let grown = take-more-set (c .args .self .now .lent .now) (c .args .self .now .len) (c .args .x) (c .if-self .taken) in
-    let here : c .args .self .now .len ≡ length (items (c .args .self .now)) = simp length-take (omega arith) in
-    record { fits = simp (length-reverse, length-take) (omega arith); items = grown; tops = reverse-push _ _ _ grown; room = simp length-set; slice = ap (λ i. set (slice-of (c .args .self .now)) i (c .args .x)) here; loan = refl }
+    let s = c .args .self .now in
+    let x = c .args .x in
+    let here : length (items s) ≡ s .len = simp length-take (omega arith) in
+    let grown = take-more-set (slice-of s) (s .len) x (c .if-self .taken) in
+    let back = reverse-push _ _ _ grown in
+    let room = length-set (slice-of s) (s .len) x in
+    record { fits = simp length-reverse (omega arith); items = cc; tops = cc; room = cc; slice = cc; loan = search needs }
 
 pub returns : need.returns
-returns g c = record { fits = simp (length-reverse, length-take) (omega arith); items = refl; tops = refl; room = refl; slice = refl; loan = refl }
+returns g c = record { fits = simp (length-reverse, length-take) (omega arith); items = cc; tops = cc; room = cc; slice = cc; loan = search needs }

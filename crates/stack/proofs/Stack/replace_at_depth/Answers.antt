@@ -1,8 +1,8 @@
-use mathlib.Core.Path.{_≡_, refl, sym, ap, _∙_}
-use mathlib.Core.List.{reverse}
+use mathlib.Core.Path.{_≡_}
 use Prim.Native.Nat.{_-_, _<_}
 use native.Mathlib.Omega.{arith}
-use lib.ListN.{length, set, length-take, length-set}
+use borrow.Author.Needs.{needs}
+use lib.ListN.{length, length-take, length-set}
 use lib.Seq.{take-set-lt}
 use Rattle.std.proofs.shelf.Lists.{set-past}
 use Rattle.std.proofs.shelf.Maps.{nth-past}
@@ -20,16 +20,14 @@ returns-then-depth-n g c =
     let low : i < s .len = omega arith in
     let here : i ≡ length (items s) - 1 - depth = omega arith in
     let written = take-set-lt (s .len) (slice-of s) i (c .args .x) low in
-    record {
-      old = nth-back (s .len) (slice-of s) n depth (c .index-self-i .result) (c .len-n .ensures .items) (c .if-depth-n .taken);
-      items = written ∙ ap (λ k. set (items s) k (c .args .x)) here;
-      tops = ap reverse written ∙ reverse-set (items s) i depth (c .args .x) (omega arith);
-      room = simp length-set;
-      slice = ap (λ k. set (slice-of s) k (c .args .x)) here;
-      loan = refl;
-    }
+    let back = reverse-set (items s) i depth (c .args .x) (omega arith) in
+    let old = nth-back (s .len) (slice-of s) n depth (c .index-self-i .result) (c .len-n .ensures .items) (c .if-depth-n .taken) in
+    let room = length-set (slice-of s) i (c .args .x) in
+    record { old = cc; items = cc; tops = cc; room = cc; slice = cc; loan = search needs }
 
 pub returns : need.returns
 returns g c =
     let s = c .args .self .now in
-    record { old = sym (nth-past (tops s) (c .args .depth) (omega arith)); items = refl; tops = sym (set-past (tops s) (c .args .depth) (c .args .x) (omega arith)); room = refl; slice = refl; loan = refl }
+    let old = nth-past (tops s) (c .args .depth) (omega arith) in
+    let past = set-past (tops s) (c .args .depth) (c .args .x) (omega arith) in
+    record { old = cc; items = cc; tops = cc; room = cc; slice = cc; loan = search needs }
