@@ -13,12 +13,12 @@ returns-then-not-comment c =
 pub loop-n-again : need.loop-n-again
 loop-n-again c =
     elim (c .match-class-of .came) [
-      in-Newline w ↦ omega (arith, separator-step (c .args .s .now) (c .loop-n .n) (c .loop-n-test .taken) (c .loop-n .comment) (c .match-class-of .comment) (w .in-Newline .ensures tt) refl (w .comment-is))
-    | in-Blank w ↦ omega (arith, separator-step (c .args .s .now) (c .loop-n .n) (c .loop-n-test .taken) (c .loop-n .comment) (c .match-class-of .comment) (w .in-Blank .ensures tt) refl (w .comment-is))
-    | in-Comment w ↦ omega (arith, separator-step (c .args .s .now) (c .loop-n .n) (c .loop-n-test .taken) (c .loop-n .comment) (c .match-class-of .comment) (w .in-Comment .ensures tt) refl (w .comment-is))
+      in-Newline w ↦ omega (arith, separator-step (c .args .s .now) (c .loop-n .n) (c .loop-n-test .taken) (c .loop-n .comment) (c .match-class-of .comment) (w .in-Newline .ensures tt) refl (let e = w .comment-is in cc))
+    | in-Blank w ↦ omega (arith, separator-step (c .args .s .now) (c .loop-n .n) (c .loop-n-test .taken) (c .loop-n .comment) (c .match-class-of .comment) (w .in-Blank .ensures tt) refl (let e = w .comment-is in cc))
+    | in-Comment w ↦ omega (arith, separator-step (c .args .s .now) (c .loop-n .n) (c .loop-n-test .taken) (c .loop-n .comment) (c .match-class-of .comment) (w .in-Comment .ensures tt) refl (let e = w .comment-is in cc))
     | in-rest·else-not-comment w ↦
       let i = inside _ (w .in-rest .not-Newline) in
-      omega (arith, separator-step (c .args .s .now) (c .loop-n .n) (c .loop-n-test .taken) (c .loop-n .comment) (c .match-class-of .comment) (c .class-of .ensures) (rw (w .if-not-comment .left) (i .0)) (w .comment-is ∙ rw (w .if-not-comment .left) (i .1))) ]
+      omega (arith, separator-step (c .args .s .now) (c .loop-n .n) (c .loop-n-test .taken) (c .loop-n .comment) (c .match-class-of .comment) (c .class-of .ensures) (rw (w .if-not-comment .left) (i .0)) (let e = w .comment-is in let f = w .if-not-comment .left in let g = i .1 in cc)) ]
 
 pub returns : need.returns
 returns c = omega (arith, separator-end (c .loop-n .comment) (c .args .s .now) (c .loop-n .n) (c .loop-n-test .left))
