@@ -1,0 +1,1 @@
+// The syntax layer: tokens as forms.
