@@ -1,2 +1,4 @@
 pub mod Trees
 pub mod Sexps
+pub mod Forms
+pub mod Reading

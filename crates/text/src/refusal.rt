@@ -1,4 +1,4 @@
-// Why a text is refused, and where.
+// Why a script is refused, and where. The layers above refuse with cases of the same enum, so all numbers stand in one place.
 ghost use mathlib.Core.Path.{_≡_};
 ghost use Rattle.text.specs.Refusals.{numberOf};
 
@@ -11,8 +11,12 @@ pub enum Refusal {
     Integer = 2,
     // a closing bracket that does not match, at itself; or that is missing, at the text's length
     Bracket = 3,
+    // a form by its head or its number of parts, or a token that cannot stand there: at its first byte
+    Form = 4,
     // a limit passed: at what passes it
     Limit = 5,
+    // the node list is shorter than the script needs: at the node that lacks an entry
+    NodeList = 21,
 }
 
 impl Refusal {
