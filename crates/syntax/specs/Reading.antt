@@ -1,13 +1,13 @@
 -- Reading: a text's tokens as a script, or the first refusal from the left, a form before its parts.
-use mathlib.Core.Bool.{Bool, true, false, _&&_, cond}
+use mathlib.Core.Bool.{Bool, true, false, cond}
 use mathlib.Core.List.{List, [], _∷_}
-use Prim.Native.Nat.{ℕ, zero, suc, _+_, min}
+use Prim.Native.Nat.{ℕ, zero, suc, _+_, _-_, min}
 use lib.Dec.{ltb}
+use lib.ListN.{length, take, drop}
 use Rattle.std.specs.declared.option.Option.{Option}
 use Rattle.std.specs.declared.option.Option.the-variants.{Some, None}
 use Rattle.std.specs.declared.result.Result.{Result}
 use Rattle.std.specs.declared.result.Result.the-variants.{Ok, Err}
-use Rattle.std.specs.shelf.Text.{sameBytes}
 use Rattle.text.specs.Scans.{scan, refusedAt}
 use Rattle.text.specs.Tokens.{Lexeme}
 use Rattle.text.specs.declared.keyword.Keyword.{Keyword}
@@ -173,21 +173,12 @@ pub record Binding : Type 0 where
   pub name : Ident
   pub expr : Expr
 
--- the first symbol among the tokens with these bytes; its place stands for the symbol
-abbrev pub isSymbol : TokenKind → Bool
-isSymbol kind.Symbol = true
-isSymbol (kind.Open _) = false
-isSymbol (kind.Close _) = false
-isSymbol (kind.Integer _) = false
-isSymbol (kind.Keyword _) = false
-isSymbol kind.Name = false
+-- the bytes between the quotes of a symbol
+abbrev pub unquoted : List ℕ → List ℕ
+unquoted w = take (length w - 2) (drop 1 w)
 
-abbrev pub firstLiteral : List Lexeme → List ℕ → ℕ
-firstLiteral [] w = 0
-firstLiteral (t ∷ ts) w = cond (isSymbol (t .kind) && sameBytes (t .bytes) w) (t .place) (firstLiteral ts w)
-
--- Expressions, in a script with these tokens, read into a node list with so many entries.
-module _ (all : List Lexeme) (entries : ℕ) where
+-- Expressions, read into a node list with so many entries.
+module _ (entries : ℕ) where
   -- one node more: each expression, branch and let binding is one
   abbrev pub countNode : {A : Type 0} → ℕ → Tally → (Tally → Outcome A) → Outcome A
   countNode p n next =
@@ -203,7 +194,7 @@ module _ (all : List Lexeme) (entries : ℕ) where
 
   abbrev pub atomExpr : TokenKind → ℕ → List ℕ → Option Expr
   atomExpr (kind.Integer z) p w = Some (integer p z)
-  atomExpr kind.Symbol p w = Some (symbol p (firstLiteral all w))
+  atomExpr kind.Symbol p w = Some (symbol p (unquoted w))
   atomExpr (kind.Keyword k) p w = keywordExpr k p
   atomExpr kind.Name p w = Some (name p w)
   atomExpr (kind.Open _) p w = None
@@ -314,7 +305,7 @@ concluded (made ds n) = Ok ds
 
 abbrev pub onTokens : ℕ → Result (List Lexeme) Refused → Result Script Refused
 onTokens entries (Err r) = Err r
-onTokens entries (Ok ts) = concluded (readDefinitions ts entries (nested ts) fresh)
+onTokens entries (Ok ts) = concluded (readDefinitions entries (nested ts) fresh)
 
 -- The script that a text is, read into a node list with so many entries: its length, tokens and brackets first, then its forms.
 abbrev pub reading : List ℕ → ℕ → Result Script Refused

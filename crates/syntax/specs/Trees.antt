@@ -32,11 +32,11 @@ pub data Pattern : Type 0 where
   wildcard : ℕ → Pattern
   constructor : ℕ → Ident → List PatternPart → Pattern
 
--- Expressions, each with its place. A symbol also has the place of the first literal with the same bytes, which stands for it.
+-- Expressions, each with its place. A symbol has the bytes between its quotes, as they stand in the text.
 mutual
   pub data Expr : Type 0 where
     integer : ℕ → ℤ → Expr
-    symbol : ℕ → ℕ → Expr
+    symbol : ℕ → List ℕ → Expr
     boolean : ℕ → Bool → Expr
     unit : ℕ → Expr
     name : ℕ → List ℕ → Expr
@@ -78,7 +78,7 @@ Script = List Definition
 -- the place of an expression
 abbrev pub place-of : Expr → ℕ
 place-of (integer p n) = p
-place-of (symbol p s) = p
+place-of (symbol p w) = p
 place-of (boolean p b) = p
 place-of (unit p) = p
 place-of (name p w) = p
