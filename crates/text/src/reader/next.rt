@@ -1,5 +1,7 @@
 // The tokens of a text one by one.
 ghost use mathlib.Core.Path.{_≡_};
+ghost use Prim.Native.Nat.{min};
+ghost use lib.ListN.{length};
 ghost use Rattle.text.specs.Reading.{Reads};
 use super::Reader;
 use super::super::Refused;
@@ -15,6 +17,22 @@ impl<'t> Reader<'t> {
         ensures place { λ r. ⌜ r .place ≡ 0 ⌝ }
     {
         Reader { text, place: 0 }
+    }
+
+    // A reader at a place, or at the text's end where the place lies behind it.
+    pub fn at(text: &'t [u8], place: usize) -> Reader<'t>
+        ensures text { λ r. ⌜ now (r .text) ≡ now (text .entry) ⌝ }
+        ensures place { λ r. ⌜ r .place ≡ min place (length (now (text .entry))) ⌝ }
+    {
+        let most = text.len();
+        Reader { text, place: place.min(most) }
+    }
+
+    // Where the reader stands: behind the token that it read last.
+    pub fn place(&self) -> usize
+        ensures { λ r. ⌜ r ≡ now (self .entry) .place ⌝ }
+    {
+        self.place
     }
 
     // The next token, or none at the end. A refusal leaves the reader where it was.
