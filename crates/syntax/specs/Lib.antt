@@ -2,3 +2,5 @@ pub mod Trees
 pub mod Sexps
 pub mod Forms
 pub mod Reading
+pub mod Looks
+pub mod Surveys

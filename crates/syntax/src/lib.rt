@@ -1,1 +1,8 @@
-// The syntax layer: tokens as forms.
+// The syntax layer: tokens as forms, read into the caller's node list.
+mod sight;
+mod survey;
+mod node;
+
+
+pub use node::Node;
+pub use node::NodeForm;

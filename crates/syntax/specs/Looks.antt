@@ -1,0 +1,26 @@
+-- What stands next in a text, by the tokens of the whole text.
+use mathlib.Core.Path.{_≡_}
+use mathlib.Core.List.{List}
+use Prim.Native.Nat.{ℕ, _+_, _≤_, _<_}
+use lib.ListN.{length}
+use Rattle.text.specs.Grammar.{NoBracket, Spelt}
+use Rattle.text.specs.Tokens.{Lexeme, lexeme, Lexed, also, lexedFrom}
+use Rattle.text.specs.declared.bracket.Bracket.{Bracket}
+use Rattle.text.specs.declared.token.TokenKind.{TokenKind}
+use Rattle.text.specs.declared.token.TokenKind.the-variants.{Open, Close}
+use Rattle.syntax.specs.declared.sight.Look.{Look}
+use Rattle.syntax.specs.declared.sight.Look.the-variants as look
+
+-- a token of this kind and these bytes at p, behind it the place after, in a text read from a place
+pub record Seen (text : List ℕ) (place : ℕ) (k : TokenKind) (w : List ℕ) (p after : ℕ) : Type 0 where
+  pub follows : lexedFrom text place ≡ also (lexeme k p w) (lexedFrom text after)
+  pub spelt : Spelt k w
+  pub size : after ≡ p + length w
+  pub forward : place < after
+  pub within : after ≤ length text
+
+abbrev pub Sees : List ℕ → ℕ → Look → Type 0
+Sees text place look.End = (t : Lexeme) (rest : Lexed) → lexedFrom text place ≡ also t rest → ⊥
+Sees text place (look.Open p after) = (shape : Bracket) × ((w : List ℕ) × Seen text place (Open shape) w p after)
+Sees text place (look.Close p after) = (shape : Bracket) × ((w : List ℕ) × Seen text place (Close shape) w p after)
+Sees text place (look.Atom k p after) = (w : List ℕ) × Seen text place k w p after × NoBracket k

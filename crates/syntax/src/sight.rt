@@ -1,0 +1,34 @@
+// What stands next in a text.
+ghost use mathlib.Core.Path.{_≡_};
+ghost use Prim.Native.Nat.{_≤_};
+ghost use lib.ListN.{length};
+ghost use Rattle.syntax.specs.Looks.{Sees};
+use text::Reader;
+use text::TokenKind;
+
+// What stands next from a place on, with its own place and the place behind it.
+#[derive(Clone, Copy)]
+pub enum Look {
+    End,
+    Open(usize, usize),
+    Close(usize, usize),
+    Atom(TokenKind, usize, usize),
+}
+
+pub fn look_at(text: &[u8], place: usize) -> Look
+    requires { ⌜ place ≤ length (now text) ⌝ }
+    ensures { λ r. ⌜ Sees (now (text .entry)) place r ⌝ }
+{
+    let mut reader = Reader::at(text, place);
+    match reader.next() {
+        Ok(Some(token)) => {
+            let after = reader.place();
+            match token.kind {
+                TokenKind::Open(_) => Look::Open(token.place, after),
+                TokenKind::Close(_) => Look::Close(token.place, after),
+                kind => Look::Atom(kind, token.place, after),
+            }
+        }
+        _ => Look::End,
+    }
+}
