@@ -1,1 +1,2 @@
 pub mod SurveyLaws
+pub mod FormLaws

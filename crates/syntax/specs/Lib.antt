@@ -4,3 +4,5 @@ pub mod Forms
 pub mod Reading
 pub mod Looks
 pub mod Surveys
+pub mod Kinds
+pub mod Streams

@@ -1,6 +1,7 @@
 // The syntax layer: tokens as forms, read into the caller's node list.
 mod sight;
 mod survey;
+mod form;
 mod node;
 
 
