@@ -1,2 +1,3 @@
 pub mod SurveyLaws
 pub mod FormLaws
+pub mod AtomLaws

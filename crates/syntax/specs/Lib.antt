@@ -6,3 +6,6 @@ pub mod Looks
 pub mod Surveys
 pub mod Kinds
 pub mod Streams
+pub mod Encoding
+pub mod Atoms
+pub mod Progress
