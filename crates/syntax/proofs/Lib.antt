@@ -1,3 +1,4 @@
 pub mod SurveyLaws
 pub mod FormLaws
 pub mod AtomLaws
+pub mod RowLaws

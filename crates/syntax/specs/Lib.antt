@@ -9,3 +9,4 @@ pub mod Streams
 pub mod Encoding
 pub mod Atoms
 pub mod Progress
+pub mod Rows

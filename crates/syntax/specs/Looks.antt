@@ -4,10 +4,12 @@ use mathlib.Core.List.{List}
 use Prim.Native.Nat.{ℕ, _+_, _≤_, _<_}
 use lib.ListN.{length}
 use Rattle.text.specs.Grammar.{NoBracket, Spelt}
-use Rattle.text.specs.Tokens.{Lexeme, lexeme, Lexed, also, lexedFrom}
+use Rattle.std.specs.declared.option.Option.{Option}
+use Rattle.std.specs.declared.option.Option.the-variants.{Some, None}
+use Rattle.text.specs.Tokens.{Lexeme, lexeme, Lexed, done, fault, also, lexedFrom}
 use Rattle.text.specs.declared.bracket.Bracket.{Bracket}
 use Rattle.text.specs.declared.token.TokenKind.{TokenKind}
-use Rattle.text.specs.declared.token.TokenKind.the-variants.{Open, Close}
+use Rattle.text.specs.declared.token.TokenKind.the-variants.{Open, Close, Symbol, Integer, Keyword, Name}
 use Rattle.syntax.specs.declared.sight.Look.{Look}
 use Rattle.syntax.specs.declared.sight.Look.the-variants as look
 
@@ -24,3 +26,22 @@ Sees text place look.End = (t : Lexeme) (rest : Lexed) → lexedFrom text place 
 Sees text place (look.Open p after) = (shape : Bracket) × ((w : List ℕ) × Seen text place (Open shape) w p after)
 Sees text place (look.Close p after) = (shape : Bracket) × ((w : List ℕ) × Seen text place (Close shape) w p after)
 Sees text place (look.Atom k p after) = (w : List ℕ) × Seen text place k w p after × NoBracket k
+
+-- no closing bracket comes next
+abbrev pub NotClose : TokenKind → Type 0
+NotClose (Close _) = ⊥
+NotClose (Open _) = Unit {0}
+NotClose Symbol = Unit {0}
+NotClose (Integer _) = Unit {0}
+NotClose (Keyword _) = Unit {0}
+NotClose Name = Unit {0}
+
+abbrev pub NotClosing : Lexed → Type 0
+NotClosing done = Unit {0}
+NotClosing (fault e i) = Unit {0}
+NotClosing (also t rest) = NotClose (t .kind)
+
+-- whether a closing bracket comes next, and the place behind it
+abbrev pub Closes : List ℕ → ℕ → Option ℕ → Type 0
+Closes text place (Some after) = (shape : Bracket) × ((w : List ℕ) × ((p : ℕ) × Seen text place (Close shape) w p after))
+Closes text place None = NotClosing (lexedFrom text place)

@@ -2,7 +2,7 @@
 ghost use mathlib.Core.Path.{_≡_};
 ghost use Prim.Native.Nat.{_≤_};
 ghost use lib.ListN.{length};
-ghost use Rattle.syntax.specs.Looks.{Sees};
+ghost use Rattle.syntax.specs.Looks.{Sees, Closes};
 use text::Reader;
 use text::TokenKind;
 
@@ -30,5 +30,18 @@ pub fn look_at(text: &[u8], place: usize) -> Look
             }
         }
         _ => Look::End,
+    }
+}
+
+// The place behind the closing bracket that stands next, or none where something else does.
+pub fn closing_at(text: &[u8], place: usize) -> Option<usize>
+    requires { ⌜ place ≤ length (now text) ⌝ }
+    ensures { λ r. ⌜ Closes (now (text .entry)) place r ⌝ }
+{
+    match look_at(text, place) {
+        Look::Close(_, after) => Some(after),
+        Look::Open(_, _) => None,
+        Look::Atom(_, _, _) => None,
+        Look::End => None,
     }
 }
