@@ -2,3 +2,4 @@ pub mod SurveyLaws
 pub mod FormLaws
 pub mod AtomLaws
 pub mod RowLaws
+pub mod LookLaws

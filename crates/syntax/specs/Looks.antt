@@ -3,7 +3,13 @@ use mathlib.Core.Path.{_≡_}
 use mathlib.Core.List.{List}
 use Prim.Native.Nat.{ℕ, _+_, _≤_, _<_}
 use lib.ListN.{length}
+use Rattle.std.specs.declared.result.Result.{Result}
+use Rattle.std.specs.declared.result.Result.the-variants.{Ok, Err}
 use Rattle.text.specs.Grammar.{NoBracket, Spelt}
+use Rattle.text.specs.declared.refusal.Refused.{Refused}
+use Rattle.syntax.specs.Reading.{Outcome, refused, made}
+use Rattle.syntax.specs.Trees.{Ident}
+use Rattle.syntax.specs.declared.names.NameAt.{NameAt}
 use Rattle.std.specs.declared.option.Option.{Option}
 use Rattle.std.specs.declared.option.Option.the-variants.{Some, None}
 use Rattle.text.specs.Tokens.{Lexeme, lexeme, Lexed, done, fault, also, lexedFrom}
@@ -45,3 +51,14 @@ NotClosing (also t rest) = NotClose (t .kind)
 abbrev pub Closes : List ℕ → ℕ → Option ℕ → Type 0
 Closes text place (Some after) = (shape : Bracket) × ((w : List ℕ) × ((p : ℕ) × Seen text place (Close shape) w p after))
 Closes text place None = NotClosing (lexedFrom text place)
+
+-- a name lies within the text, and is short
+abbrev pub GoesName : List ℕ → ℕ → Result NameAt Refused → Type 0
+GoesName text place (Ok name) = (place < name .after) × (name .after ≤ length text) × (name .place ≤ name .after) × (name .after ≤ name .place + 63)
+GoesName text place (Err x) = Unit {0}
+
+-- the code's answer, for what the rules make of the same part
+abbrev pub Named : List ℕ → Lexed → Outcome Ident → Result NameAt Refused → Type 0
+Named text rest (refused x) r = r ≡ Err x
+Named text rest (made i n) (Ok name) = (name .place ≡ i .place) × (name .after ≡ i .place + length (i .bytes)) × (lexedFrom text (name .after) ≡ rest)
+Named text rest (made i n) (Err x) = ⊥

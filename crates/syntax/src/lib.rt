@@ -5,6 +5,7 @@ mod survey;
 mod atoms;
 mod expressions;
 mod form;
+mod names;
 mod node;
 
 
