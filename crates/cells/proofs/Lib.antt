@@ -1,0 +1,4 @@
+pub mod CellLaws
+pub mod RecordLaws
+pub mod Calls
+pub mod Pairs

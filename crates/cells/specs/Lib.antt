@@ -1,0 +1,5 @@
+pub mod Kinds
+pub mod Values
+pub mod Records
+pub mod Refusals
+pub mod Meaning

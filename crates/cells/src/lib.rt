@@ -1,0 +1,7 @@
+// Cells: the values that a cell holds, the record that it is, and what a store of cells means.
+pub mod kinds;
+pub mod values;
+pub mod records;
+pub mod record_methods;
+pub mod refusals;
+pub mod store;
