@@ -133,20 +133,20 @@ give-back-capacity old i (Err e) new h = ap length (h .same)
 pub read-some : (cs : Cells) (i : ℕ) (r : CellRecord) → recordAt cs i ≡ Ok r → at cs i ≡ Some r
 read-some cs i r h = got (at cs i) h
   where
-  got : (c : Option CellRecord) → okOr c DeadCell ≡ Ok r → c ≡ Some r
-  got None h = absurd (false≢true (ap isOk h))
-  got (Some q) h = cc
+    got : (c : Option CellRecord) → okOr c DeadCell ≡ Ok r → c ≡ Some r
+    got None h = absurd (false≢true (ap isOk h))
+    got (Some q) h = cc
 
 pub read-none : (cs : Cells) (i : ℕ) (e : StoreRefusal) → recordAt cs i ≡ Err e → Dead cs i e cs
 read-none cs i e h = let p = got (at cs i) h in record { number = p .0; dead = p .1; same = refl }
   where
-  got : (c : Option CellRecord) → okOr c DeadCell ≡ Err e → (e ≡ DeadCell) × (c ≡ None)
-  got None h = (cc, refl)
-  got (Some q) h = absurd (true≢false (ap isOk h))
+    got : (c : Option CellRecord) → okOr c DeadCell ≡ Err e → (e ≡ DeadCell) × (c ≡ None)
+    got None h = (cc, refl)
+    got (Some q) h = absurd (true≢false (ap isOk h))
 
 pub read-live : (cs : Cells) (i : ℕ) → isOk (recordAt cs i) ≡ isLive cs i
 read-live cs i = same (at cs i)
   where
-  same : (c : Option CellRecord) → isOk (okOr c DeadCell) ≡ isSome c
-  same None = refl
-  same (Some q) = refl
+    same : (c : Option CellRecord) → isOk (okOr c DeadCell) ≡ isSome c
+    same None = refl
+    same (Some q) = refl

@@ -3,3 +3,4 @@ pub mod Values
 pub mod Records
 pub mod Refusals
 pub mod Meaning
+pub mod Laws

@@ -16,7 +16,12 @@ impl CellRecord {
         ensures { λ r. ⌜ Made constructor [] r ⌝ }
     {
         let unit = Value::Unit;
-        CellRecord { constructor, used: 0, fields: [unit; 6], spare: 0 }
+        CellRecord {
+            constructor,
+            used: 0,
+            fields: [unit; 6],
+            spare: 0,
+        }
     }
 
     // A record with these values as its fields; none exactly where there are more than six.
@@ -31,7 +36,12 @@ impl CellRecord {
         for i in 0..values.len() {
             fields[i] = values[i];
         }
-        Some(CellRecord { constructor, used: values.len() as u8, fields, spare: 0 })
+        Some(CellRecord {
+            constructor,
+            used: values.len() as u8,
+            fields,
+            spare: 0,
+        })
     }
 
     // The field at a place; unit at one that is not used.
@@ -39,7 +49,11 @@ impl CellRecord {
         ensures { λ r. ⌜ r ≡ getD (now (self .entry) .fields) place Value.Unit ⌝ }
     {
         let fields = &self.fields;
-        if place < FIELDS { fields[place] } else { Value::Unit }
+        if place < FIELDS {
+            fields[place]
+        } else {
+            Value::Unit
+        }
     }
 
     // The record with another value at a place; none exactly where the place is not used.
@@ -51,7 +65,12 @@ impl CellRecord {
         }
         let mut fields = self.fields;
         fields[place] = value;
-        Some(CellRecord { constructor: self.constructor, used: self.used, fields, spare: self.spare })
+        Some(CellRecord {
+            constructor: self.constructor,
+            used: self.used,
+            fields,
+            spare: self.spare,
+        })
     }
 
     // The record with another spare number.
@@ -59,6 +78,11 @@ impl CellRecord {
         ensures { λ r. ⌜ SparePut self spare r ⌝ }
     {
         let fields = self.fields;
-        CellRecord { constructor: self.constructor, used: self.used, fields, spare }
+        CellRecord {
+            constructor: self.constructor,
+            used: self.used,
+            fields,
+            spare,
+        }
     }
 }

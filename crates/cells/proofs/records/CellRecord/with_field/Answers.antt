@@ -5,7 +5,10 @@ use Rattle.cells.proofs.records.CellRecord.with_field.Needs as need
 
 pub ghost-result : need.ghost-result
 ghost-result c =
-    let r = c .args .self in
-    (length-set (r .fields) (c .args .place) (c .args .value) ∙ r .six,
-      (r .few,
-      (ap allUnit (drop-set-lt (r .used) (r .fields) (c .args .place) (c .args .value) (c .if-place-self .left)) ∙ r .rest, tt)))
+    let r = c .args .self in (
+      length-set (r .fields) (c .args .place) (c .args .value) ∙ r .six,
+      (
+        r .few,
+        (ap allUnit (drop-set-lt (r .used) (r .fields) (c .args .place) (c .args .value) (c .if-place-self .left)) ∙ r .rest, tt),
+      ),
+    )
