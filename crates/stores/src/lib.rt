@@ -1,0 +1,3 @@
+// Stores of cells: the chain store and the marked store over lent memory, and the shelf, a layer over any store.
+pub mod chain_slots;
+pub mod chain;
