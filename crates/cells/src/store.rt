@@ -8,6 +8,9 @@ ghost use Rattle.cells.specs.Meaning.{Taken, Written, GivenBack, recordAt, liv
 use crate::records::CellRecord;
 use crate::refusals::StoreRefusal;
 
+// The most cells that a store has; as a number it is that of no cell.
+pub const MOST_CELLS: u16 = 65535;
+
 // A store of cells, by what it means: for each number below its capacity a live record, or none where the cell is free.
 // No call changes the capacity or touches another cell; no question and no refusal changes anything.
 pub trait CellStore {

@@ -6,7 +6,7 @@ use Prim.Native.Nat.{ℕ, zero, suc, _+_, _-_, _<_, _≤_, min}
 use native.Mathlib.Omega.{arith}
 use lib.ListN.{length, getD, set, replicate}
 use Rattle.std.specs.declared.option.Option.the-variants.{None}
-use Rattle.std.proofs.shelf.Lists.{length-set, getD-default, ext-getD, length-replicate, getD-replicate}
+use Rattle.std.proofs.shelf.Lists.{getD-default}
 use Rattle.std.proofs.shelf.Tests.{eqb-true, eq-eqb, both-ways}
 use Rattle.cells.specs.declared.refusals.StoreRefusal.the-variants.{NoFreeCell}
 use Rattle.cells.specs.declared.records.CellRecord.{CellRecord}
@@ -16,7 +16,7 @@ use Rattle.stores.specs.declared.chain_slots.ChainSlot.{ChainSlot}
 use Rattle.stores.specs.declared.chain_slots.ChainSlot.the-variants.{Free, Live}
 use Rattle.stores.specs.Lent.{front, meant}
 use Rattle.stores.specs.Chains.{chainCell, isFree, next, slotAt, chained}
-use Rattle.stores.proofs.LentLaws.{front-set, front-length, front-at, meant-length, meant-at, count-within}
+use Rattle.stores.proofs.LentLaws.{front-set, front-length, front-at, meant-length, count-within, empty-meant, empty-count}
 use Rattle.stores.proofs.ChainLaws.{link-of, link-to, chained-live, chained-pop, chained-push}
 
 module _ (s : List ChainSlot) (capacity : ℕ) (sized : capacity ≡ min (length s) 65535) where
@@ -79,18 +79,10 @@ module _ (s : List ChainSlot) (capacity : ℕ) (sized : capacity ≡ min (length
   -- slots as a new store has them: each free, with the next number
   module _ (fresh : (k : ℕ) (d : ChainSlot) → k < capacity → getD s k d ≡ Free (k + 1)) where
     pub fresh-meant : meant chainCell s ≡ replicate capacity None
-    fresh-meant =
-        ext-getD None (meant chainCell s) (replicate capacity None) (meant-length chainCell s capacity sized ∙ sym (length-replicate capacity None))
-        (λ i h.
-          let w : i < capacity = omega (arith, meant-length chainCell s capacity sized) in
-          meant-at chainCell s capacity sized i (Free 0) w ∙ ap chainCell (fresh i (Free 0) w) ∙ sym (getD-replicate capacity i None None w))
+    fresh-meant = empty-meant chainCell s capacity sized (λ k d h. ap chainCell (fresh k d h))
 
     pub fresh-count : 0 ≡ liveCount (meant chainCell s)
-    fresh-count = sym (ap liveCount fresh-meant ∙ none-live capacity)
-      where
-      none-live : (n : ℕ) → liveCount (replicate n None) ≡ 0
-      none-live zero = refl
-      none-live (suc n) = omega (arith, none-live n)
+    fresh-count = empty-count chainCell s capacity sized (λ k d h. ap chainCell (fresh k d h))
 
     fresh-from : (n h : ℕ) → h + n ≡ capacity → chained n (front s) h ≡ true
     fresh-from zero h e = eq-eqb h (length (front s)) (omega (arith, front-length s capacity sized))

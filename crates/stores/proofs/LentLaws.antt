@@ -4,7 +4,7 @@ use mathlib.Core.Bool.{Bool, true, false}
 use mathlib.Core.List.{List, [], _∷_, map}
 use Prim.Native.Nat.{ℕ, zero, suc, _+_, _<_, _≤_, min}
 use native.Mathlib.Omega.{arith}
-use lib.ListN.{length, getD, set, take, drop}
+use lib.ListN.{length, getD, set, take, drop, replicate}
 use Rattle.std.specs.Options.{isSome, okOr}
 use Rattle.std.specs.declared.option.Option.{Option}
 use Rattle.std.specs.declared.option.Option.the-variants.{Some, None}
@@ -90,3 +90,22 @@ module _ {X : Type 0} (f : X → Option CellRecord) (s : List X) (capacity : ℕ
 
   pub count-within : liveCount (meant f s) ≤ capacity
   count-within = omega (arith, meant-length, count-le (meant f s))
+
+  -- where each slot in use is free
+  module _ (free : (k : ℕ) (d : X) → k < capacity → f (getD s k d) ≡ None) where
+    pub empty-meant : meant f s ≡ replicate capacity None
+    empty-meant = all-none (front s) (λ k d h.
+        let w : k < capacity = omega (arith, front-length s capacity sized) in
+        ap f (front-at s capacity k d sized w) ∙ free k d w)
+      ∙ ap (λ n. replicate n None) (front-length s capacity sized)
+      where
+      all-none : (xs : List X) → ((k : ℕ) (d : X) → k < length xs → f (getD xs k d) ≡ None) → map f xs ≡ replicate (length xs) None
+      all-none [] each = refl
+      all-none (x ∷ xs) each = ap (λ c. c ∷ map f xs) (each 0 x (omega arith)) ∙ ap (λ cs. None ∷ cs) (all-none xs (λ k d h. each (suc k) d (omega arith)))
+
+    pub empty-count : 0 ≡ liveCount (meant f s)
+    empty-count = sym (ap liveCount empty-meant ∙ none-live capacity)
+      where
+      none-live : (n : ℕ) → liveCount (replicate n None) ≡ 0
+      none-live zero = refl
+      none-live (suc n) = omega (arith, none-live n)

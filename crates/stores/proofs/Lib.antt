@@ -1,3 +1,4 @@
 pub mod LentLaws
 pub mod ChainLaws
 pub mod ChainSteps
+pub mod MarkLaws

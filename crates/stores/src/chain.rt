@@ -10,10 +10,8 @@ ghost use Rattle.stores.specs.Chains.{chainCell, chained};
 use cells::records::CellRecord;
 use cells::refusals::StoreRefusal;
 use cells::store::CellStore;
+use cells::store::MOST_CELLS;
 use crate::chain_slots::ChainSlot;
-
-// The most cells that a store has: the numbers 0 to 65534.
-const MOST: usize = 65535;
 
 // A store over lent slots whose free ones are linked: `free` is the first of them, or the capacity where there is none.
 // Slots past the first 65535 are not used.
@@ -46,9 +44,17 @@ impl<'a> ChainStore<'a> {
         ensures past { λ r. ⌜ drop 65535 (now (r .slots)) ≡ drop 65535 (now (slots .entry)) ⌝ }
         ensures lent { λ r. ⌜ name (r .slots) ≡ name (slots .entry) ⌝ }
     {
-        let count = slots.len().min(MOST);
+        let count = slots.len().min(MOST_CELLS as usize);
         link_all(slots, count);
         ChainStore { slots, capacity: count as u16, free: 0, live: 0 }
+    }
+
+    // The slots that the store was made over, as it leaves them.
+    pub fn into_slots(self) -> &'a mut [ChainSlot]
+        ensures { λ r. ⌜ (name r ≡ name (self .entry .slots)) × (now r ≡ now (self .entry .slots)) ⌝ }
+    {
+        let ChainStore { slots, capacity: _, free: _, live: _ } = self;
+        slots
     }
 }
 

@@ -1,3 +1,5 @@
 // Stores of cells: the chain store and the marked store over lent memory, and the shelf, a layer over any store.
 pub mod chain_slots;
 pub mod chain;
+pub mod marked_slots;
+pub mod marked;
