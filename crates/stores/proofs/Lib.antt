@@ -2,3 +2,4 @@ pub mod LentLaws
 pub mod ChainLaws
 pub mod ChainSteps
 pub mod MarkLaws
+pub mod ShelfLaws

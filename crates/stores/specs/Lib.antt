@@ -1,3 +1,4 @@
 pub mod Lent
 pub mod Chains
 pub mod Marks
+pub mod Shelves

@@ -3,3 +3,4 @@ pub mod chain_slots;
 pub mod chain;
 pub mod marked_slots;
 pub mod marked;
+pub mod shelf;
