@@ -33,20 +33,20 @@ module _ (s : List ChainSlot) (capacity : ℕ) (sized : capacity ≡ min (length
     full = λ k h. count-full (meant chainCell s) k (none (capacity - live) refl linked) h;
   }
     where
-    none : (n : ℕ) → n ≡ capacity - live → chained n (front s) free ≡ true → liveCount (meant chainCell s) ≡ length (meant chainCell s)
-    none zero e c =
-        let long = meant-length chainCell s capacity sized in
-        let b = count-within chainCell s capacity sized in
-        omega arith
-    none (suc n) e c = let w = link-of n (front s) free c .within in absurd (omega (arith, front-length s capacity sized))
+      none : (n : ℕ) → n ≡ capacity - live → chained n (front s) free ≡ true → liveCount (meant chainCell s) ≡ length (meant chainCell s)
+      none zero e c =
+          let long = meant-length chainCell s capacity sized in
+          let b = count-within chainCell s capacity sized in
+          omega arith
+      none (suc n) e c = let w = link-of n (front s) free c .within in absurd (omega (arith, front-length s capacity sized))
 
   -- a chain that starts below the capacity has a link
   pub headed : (free live : ℕ) → chained (capacity - live) (front s) free ≡ true → free < capacity → (m : ℕ) × (capacity - live ≡ suc m) × (chained (suc m) (front s) free ≡ true)
   headed free live linked h = go (capacity - live) refl linked
     where
-    go : (n : ℕ) → capacity - live ≡ n → chained n (front s) free ≡ true → (m : ℕ) × (capacity - live ≡ suc m) × (chained (suc m) (front s) free ≡ true)
-    go zero e c = absurd (omega (arith, eqb-true free (length (front s)) c, front-length s capacity sized))
-    go (suc m) e c = (m, e, c)
+      go : (n : ℕ) → capacity - live ≡ n → chained n (front s) free ≡ true → (m : ℕ) × (capacity - live ≡ suc m) × (chained (suc m) (front s) free ≡ true)
+      go zero e c = absurd (omega (arith, eqb-true free (length (front s)) c, front-length s capacity sized))
+      go (suc m) e c = (m, e, c)
 
   -- and its first slot is free
   pub head-free : (free live : ℕ) (d : ChainSlot) (r : CellRecord) → chained (capacity - live) (front s) free ≡ true → free < capacity → getD s free d ≡ Live r → ⊥

@@ -97,15 +97,15 @@ module _ {X : Type 0} (f : X → Option CellRecord) (s : List X) (capacity : ℕ
     empty-meant = all-none (front s) (λ k d h.
         let w : k < capacity = omega (arith, front-length s capacity sized) in
         ap f (front-at s capacity k d sized w) ∙ free k d w)
-      ∙ ap (λ n. replicate n None) (front-length s capacity sized)
+        ∙ ap (λ n. replicate n None) (front-length s capacity sized)
       where
-      all-none : (xs : List X) → ((k : ℕ) (d : X) → k < length xs → f (getD xs k d) ≡ None) → map f xs ≡ replicate (length xs) None
-      all-none [] each = refl
-      all-none (x ∷ xs) each = ap (λ c. c ∷ map f xs) (each 0 x (omega arith)) ∙ ap (λ cs. None ∷ cs) (all-none xs (λ k d h. each (suc k) d (omega arith)))
+        all-none : (xs : List X) → ((k : ℕ) (d : X) → k < length xs → f (getD xs k d) ≡ None) → map f xs ≡ replicate (length xs) None
+        all-none [] each = refl
+        all-none (x ∷ xs) each = ap (λ c. c ∷ map f xs) (each 0 x (omega arith)) ∙ ap (λ cs. None ∷ cs) (all-none xs (λ k d h. each (suc k) d (omega arith)))
 
     pub empty-count : 0 ≡ liveCount (meant f s)
     empty-count = sym (ap liveCount empty-meant ∙ none-live capacity)
       where
-      none-live : (n : ℕ) → liveCount (replicate n None) ≡ 0
-      none-live zero = refl
-      none-live (suc n) = omega (arith, none-live n)
+        none-live : (n : ℕ) → liveCount (replicate n None) ≡ 0
+        none-live zero = refl
+        none-live (suc n) = omega (arith, none-live n)

@@ -31,8 +31,8 @@ pub all-marked : (s : List MarkedSlot) (capacity : ℕ) → capacity ≡ min (le
 all-marked s capacity sized d all =
     let long = meant-length markedCell s capacity sized in
     full-count (meant markedCell s) (λ k h.
-      let w : k < capacity = omega arith in
-      ap isSome (meant-at markedCell s capacity sized k d w ∙ live-mark (getD s k d) (all k w)))
+    let w : k < capacity = omega arith in
+    ap isSome (meant-at markedCell s capacity sized k d w ∙ live-mark (getD s k d) (all k w)))
     ∙ long
 
 -- every slot in use marked free: no cell is live

@@ -46,8 +46,8 @@ at-among [] cs i h = absurd (false≢true h)
 at-among (k ∷ ks) cs i h = ⊎-elim
     (λ (q : k ≡ i). ap (λ j. at (set (less ks cs) j None) i) q ∙ at-cleared (less ks cs) i)
     (λ (ne : k ≡ i → ⊥).
-      let rest : among ks i ≡ true = ⊎-elim (λ (e : eqb k i ≡ true). absurd (ne (eqb-true k i e))) (λ r. r) (some-or-other (eqb k i) (among ks i) h) in
-      at-other (less ks cs) k i None (λ e. ne (sym e)) ∙ at-among ks cs i rest)
+    let rest : among ks i ≡ true = ⊎-elim (λ (e : eqb k i ≡ true). absurd (ne (eqb-true k i e))) (λ r. r) (some-or-other (eqb k i) (among ks i) h) in
+    at-other (less ks cs) k i None (λ e. ne (sym e)) ∙ at-among ks cs i rest)
     (cases-eq k i)
 
 pub at-beside : (ks : List ℕ) (cs : Cells) (i : ℕ) → among ks i ≡ false → at (less ks cs) i ≡ at cs i
@@ -99,26 +99,26 @@ apart-put (k ∷ ks) zero x new h =
     let p = and-parts (eqb k 65535 || not (among ks k)) (apart ks) h in
     and-from (eqb x 65535 || not (among ks x)) (apart ks)
     (⊎-elim
-      (λ (e : x ≡ 65535). or-left (eqb x 65535) (not (among ks x)) (eq-eqb x 65535 e))
-      (λ (e : among (k ∷ ks) x ≡ false). or-right (eqb x 65535) (not (among ks x)) (not-from-false (among ks x) (or-parts (eqb k x) (among ks x) e .1)))
-      new)
+    (λ (e : x ≡ 65535). or-left (eqb x 65535) (not (among ks x)) (eq-eqb x 65535 e))
+    (λ (e : among (k ∷ ks) x ≡ false). or-right (eqb x 65535) (not (among ks x)) (not-from-false (among ks x) (or-parts (eqb k x) (among ks x) e .1)))
+    new)
     (p .1)
 apart-put (k ∷ ks) (suc n) x new h =
     let p = and-parts (eqb k 65535 || not (among ks k)) (apart ks) h in
     and-from (eqb k 65535 || not (among (set ks n x) k)) (apart (set ks n x))
     (⊎-elim
-      (λ (e : eqb k 65535 ≡ true). or-left (eqb k 65535) (not (among (set ks n x) k)) e)
-      (λ (e : not (among ks k) ≡ true).
-        ⊎-elim
-        (λ (q : k ≡ 65535). or-left (eqb k 65535) (not (among (set ks n x) k)) (eq-eqb k 65535 q))
-        (λ (ne : k ≡ 65535 → ⊥).
-          let other : k ≢ x = ⊎-elim
-            (λ (w : x ≡ 65535). λ (q : k ≡ x). ne (q ∙ w))
-            (λ (w : among (k ∷ ks) x ≡ false). λ (q : k ≡ x). eqb-false k x (or-parts (eqb k x) (among ks x) w .0) q)
-            new in
-          or-right (eqb k 65535) (not (among (set ks n x) k)) (not-from-false (among (set ks n x) k) (among-put ks n x k other (not-true (among ks k) e))))
-        (cases-eq k 65535))
-      (some-or-other (eqb k 65535) (not (among ks k)) (p .0)))
+    (λ (e : eqb k 65535 ≡ true). or-left (eqb k 65535) (not (among (set ks n x) k)) e)
+    (λ (e : not (among ks k) ≡ true).
+    ⊎-elim
+    (λ (q : k ≡ 65535). or-left (eqb k 65535) (not (among (set ks n x) k)) (eq-eqb k 65535 q))
+    (λ (ne : k ≡ 65535 → ⊥).
+    let other : k ≢ x = ⊎-elim
+    (λ (w : x ≡ 65535). λ (q : k ≡ x). ne (q ∙ w))
+    (λ (w : among (k ∷ ks) x ≡ false). λ (q : k ≡ x). eqb-false k x (or-parts (eqb k x) (among ks x) w .0) q)
+    new in
+    or-right (eqb k 65535) (not (among (set ks n x) k)) (not-from-false (among (set ks n x) k) (among-put ks n x k other (not-true (among ks k) e))))
+    (cases-eq k 65535))
+    (some-or-other (eqb k 65535) (not (among ks k)) (p .0)))
     (apart-put ks n x (⊎-elim (λ (w : x ≡ 65535). inl w) (λ (w : among (k ∷ ks) x ≡ false). inr (or-parts (eqb k x) (among ks x) w .1)) new) (p .1))
 
 pub apart-off : (ks : List ℕ) (n : ℕ) → apart ks ≡ true → apart (set ks n 65535) ≡ true
@@ -134,17 +134,17 @@ off-among (k ∷ ks) zero within cell h =
     let p = and-parts (eqb k 65535 || not (among ks k)) (apart ks) h in
     or-from (eqb 65535 k) (among ks k) (ne-eqb 65535 k (λ e. cell (sym e)))
     (⊎-elim
-      (λ (e : eqb k 65535 ≡ true). absurd (cell (eqb-true k 65535 e)))
-      (λ (e : not (among ks k) ≡ true). not-true (among ks k) e)
-      (some-or-other (eqb k 65535) (not (among ks k)) (p .0)))
+    (λ (e : eqb k 65535 ≡ true). absurd (cell (eqb-true k 65535 e)))
+    (λ (e : not (among ks k) ≡ true). not-true (among ks k) e)
+    (some-or-other (eqb k 65535) (not (among ks k)) (p .0)))
 off-among (k ∷ ks) (suc n) within cell h =
     let x = getD ks n 0 in
     let p = and-parts (eqb k 65535 || not (among ks k)) (apart ks) h in
     let other : k ≡ getD ks n 0 → ⊥ = λ q.
-      ⊎-elim
-      (λ (e : eqb k 65535 ≡ true). cell (sym q ∙ eqb-true k 65535 e))
-      (λ (e : not (among ks k) ≡ true). true≢false (sym (ap (among ks) q ∙ among-at ks n 0 (omega arith)) ∙ not-true (among ks k) e))
-      (some-or-other (eqb k 65535) (not (among ks k)) (p .0)) in
+    ⊎-elim
+    (λ (e : eqb k 65535 ≡ true). cell (sym q ∙ eqb-true k 65535 e))
+    (λ (e : not (among ks k) ≡ true). true≢false (sym (ap (among ks) q ∙ among-at ks n 0 (omega arith)) ∙ not-true (among ks k) e))
+    (some-or-other (eqb k 65535) (not (among ks k)) (p .0)) in
     or-from (eqb k x) (among (set ks n 65535) x) (ne-eqb k x other) (off-among ks n (omega arith) cell (p .1))
 
 -- the meaning, with the number of one place set apart
@@ -187,8 +187,8 @@ bare-on ks n x few long bare =
     let u : getD ks n 0 ∷ drop (n + 1) ks ≡ 65535 ∷ replicate (16 - (n + 1)) 65535 = sym t ∙ bare ∙ ap (λ k. replicate k 65535) left in
     drop-set-lt (n + 1) ks n x (omega arith) ∙ tails u
   where
-  tails : {a b : ℕ} {xs ys : List ℕ} → a ∷ xs ≡ b ∷ ys → xs ≡ ys
-  tails e = cc
+    tails : {a b : ℕ} {xs ys : List ℕ} → a ∷ xs ≡ b ∷ ys → xs ≡ ys
+    tails e = cc
 
 pub emptied : (ks : List ℕ) (n : ℕ) → n ≤ 0 → drop n ks ≡ replicate (16 - n) 65535 → ks ≡ replicate 16 65535
 emptied ks n none bare = let z : n ≡ 0 = omega arith in subst (λ k. drop k ks ≡ replicate (16 - k) 65535) z bare
@@ -233,9 +233,9 @@ reused ks n old new r small within once h =
       within = let w = live-within old i (h .live) in rw (less-length ks old) w;
       free = at-among ks old i (among-at ks n 0 within);
       after =
-        ap (less (set ks n 65535)) (h .after)
-        ∙ less-set (set ks n 65535) old i (Some r) off
-        ∙ sym (ap (λ l. set l i (Some r)) (less-off ks n old small within) ∙ set-set (less (set ks n 65535) old) i None (Some r));
+          ap (less (set ks n 65535)) (h .after)
+          ∙ less-set (set ks n 65535) old i (Some r) off
+          ∙ sym (ap (λ l. set l i (Some r)) (less-off ks n old small within) ∙ set-set (less (set ks n 65535) old) i None (Some r));
     }
 
 pub passed : (ks : List ℕ) (n : ℕ) (cs : Cells) → length cs ≤ 65535 → n < length ks → at cs (getD ks n 0) ≡ None → less (set ks n 65535) cs ≡ less ks cs
@@ -252,14 +252,14 @@ less-push (j ∷ ks) k cs = ap (λ l. set l j None) (less-push ks k cs) ∙ clea
 among-push : (ks : List ℕ) (k i : ℕ) → among (ks ++ k ∷ []) i ≡ among ks i || eqb k i
 among-push [] k i = or-false (eqb k i)
   where
-  or-false : (b : Bool) → b || false ≡ b
-  or-false true = refl
-  or-false false = refl
+    or-false : (b : Bool) → b || false ≡ b
+    or-false true = refl
+    or-false false = refl
 among-push (j ∷ ks) k i = ap (λ b. eqb j i || b) (among-push ks k i) ∙ sym (or-assoc (eqb j i) (among ks i) (eqb k i))
   where
-  or-assoc : (a b c : Bool) → (a || b) || c ≡ a || (b || c)
-  or-assoc true b c = refl
-  or-assoc false b c = refl
+    or-assoc : (a b c : Bool) → (a || b) || c ≡ a || (b || c)
+    or-assoc true b c = refl
+    or-assoc false b c = refl
 
 pub less-more : (ks : List ℕ) (n d : ℕ) (cs : Cells) → n < length ks → less (take (n + 1) ks) cs ≡ set (less (take n ks) cs) (getD ks n d) None
 less-more ks n d cs h = ap (λ l. less l cs) (take-more ks n d h) ∙ less-push (take n ks) (getD ks n d) cs
@@ -275,10 +275,10 @@ before (k ∷ ks) (suc n) within cell h =
     let x = getD ks n 0 in
     let p = and-parts (eqb k 65535 || not (among ks k)) (apart ks) h in
     let other : k ≡ getD ks n 0 → ⊥ = λ q.
-      ⊎-elim
-      (λ (e : eqb k 65535 ≡ true). cell (sym q ∙ eqb-true k 65535 e))
-      (λ (e : not (among ks k) ≡ true). true≢false (sym (ap (among ks) q ∙ among-at ks n 0 (omega arith)) ∙ not-true (among ks k) e))
-      (some-or-other (eqb k 65535) (not (among ks k)) (p .0)) in
+    ⊎-elim
+    (λ (e : eqb k 65535 ≡ true). cell (sym q ∙ eqb-true k 65535 e))
+    (λ (e : not (among ks k) ≡ true). true≢false (sym (ap (among ks) q ∙ among-at ks n 0 (omega arith)) ∙ not-true (among ks k) e))
+    (some-or-other (eqb k 65535) (not (among ks k)) (p .0)) in
     or-from (eqb k x) (among (take n ks) x) (ne-eqb k x other) (before ks n (omega arith) cell (p .1))
 
 -- the count of live cells, one place further
@@ -304,3 +304,14 @@ reuse-hit ks n old new r (Err e) small within once ok h = absurd (false≢true o
 pub reuse-miss : {U : Type 0} (i : ℕ) (old new : Cells) (r : CellRecord) (answer : Result U StoreRefusal) → isOk answer ≡ false → Written old i r answer new → (new ≡ old) × (at old i ≡ None)
 reuse-miss i old new r (Ok u) miss h = absurd (true≢false miss)
 reuse-miss i old new r (Err e) miss h = (h .same, h .dead)
+
+-- clearing below and clearing above
+less-clear : (ks : List ℕ) (cs : Cells) (i : ℕ) → less ks (set cs i None) ≡ set (less ks cs) i None
+less-clear [] cs i = refl
+less-clear (k ∷ ks) cs i = ap (λ l. set l k None) (less-clear ks cs i) ∙ clear-comm (less ks cs) i k
+
+-- a number that goes back below
+pub put-back : {U : Type 0} (ks : List ℕ) (n : ℕ) (old new : Cells) (answer : Result U StoreRefusal) → length old ≤ 65535 → n < length ks → GivenBack old (getD ks n 0) answer new → less (set ks n 65535) new ≡ less ks old
+put-back ks n old new (Ok u) small within h =
+    ap (less (set ks n 65535)) (h .after) ∙ less-clear (set ks n 65535) old (getD ks n 0) ∙ sym (less-off ks n old small within)
+put-back ks n old new (Err e) small within h = ap (less (set ks n 65535)) (h .same) ∙ passed ks n old small within (h .dead)

@@ -7,11 +7,11 @@ ghost use Rattle.std.specs.declared.option.Option.the-variants.{None};
 ghost use Rattle.cells.specs.Meaning.{Taken, Written, GivenBack, recordAt, liveCount};
 ghost use Rattle.stores.specs.Lent.{front, meant, meant-small, Kept};
 ghost use Rattle.stores.specs.Chains.{chainCell, chained};
+use crate::chain_slots::ChainSlot;
 use cells::records::CellRecord;
 use cells::refusals::StoreRefusal;
 use cells::store::CellStore;
 use cells::store::MOST_CELLS;
-use crate::chain_slots::ChainSlot;
 
 // A store over lent slots whose free ones are linked: `free` is the first of them, or the capacity where there is none.
 // Slots past the first 65535 are not used.
@@ -46,14 +46,24 @@ impl<'a> ChainStore<'a> {
     {
         let count = slots.len().min(MOST_CELLS as usize);
         link_all(slots, count);
-        ChainStore { slots, capacity: count as u16, free: 0, live: 0 }
+        ChainStore {
+            slots,
+            capacity: count as u16,
+            free: 0,
+            live: 0,
+        }
     }
 
     // The slots that the store was made over, as it leaves them.
     pub fn into_slots(self) -> &'a mut [ChainSlot]
         ensures { λ r. ⌜ (name r ≡ name (self .entry .slots)) × (now r ≡ now (self .entry .slots)) ⌝ }
     {
-        let ChainStore { slots, capacity: _, free: _, live: _ } = self;
+        let ChainStore {
+            slots,
+            capacity: _,
+            free: _,
+            live: _,
+        } = self;
         slots
     }
 }

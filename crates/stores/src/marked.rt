@@ -8,11 +8,11 @@ ghost use Rattle.std.specs.declared.option.Option.the-variants.{None};
 ghost use Rattle.cells.specs.Meaning.{Taken, Written, GivenBack, liveCount};
 ghost use Rattle.stores.specs.Lent.{meant, meant-small, Kept};
 ghost use Rattle.stores.specs.Marks.{markedCell};
+use crate::marked_slots::MarkedSlot;
 use cells::records::CellRecord;
 use cells::refusals::StoreRefusal;
 use cells::store::CellStore;
 use cells::store::MOST_CELLS;
-use crate::marked_slots::MarkedSlot;
 
 // A store over lent slots, each with a mark; a free one is searched for, from where the last search ended.
 // Slots past the first 65535 are not used.
@@ -63,14 +63,24 @@ impl<'a> MarkedStore<'a> {
     {
         let count = slots.len().min(MOST_CELLS as usize);
         free_all(slots, count);
-        MarkedStore { slots, capacity: count as u16, live: 0, next: 0 }
+        MarkedStore {
+            slots,
+            capacity: count as u16,
+            live: 0,
+            next: 0,
+        }
     }
 
     // The slots that the store was made over, as it leaves them.
     pub fn into_slots(self) -> &'a mut [MarkedSlot]
         ensures { λ r. ⌜ (name r ≡ name (self .entry .slots)) × (now r ≡ now (self .entry .slots)) ⌝ }
     {
-        let MarkedStore { slots, capacity: _, live: _, next: _ } = self;
+        let MarkedStore {
+            slots,
+            capacity: _,
+            live: _,
+            next: _,
+        } = self;
         slots
     }
 
@@ -102,7 +112,10 @@ pub impl CellStore for MarkedStore<'_> as MarkedCellStore {
         }
         match self.search() {
             Some(cell) => {
-                self.slots[cell as usize] = MarkedSlot { live: true, contents };
+                self.slots[cell as usize] = MarkedSlot {
+                    live: true,
+                    contents,
+                };
                 self.live += 1;
                 self.next = cell + 1;
                 Ok(cell)
@@ -116,7 +129,11 @@ pub impl CellStore for MarkedStore<'_> as MarkedCellStore {
             return Err(StoreRefusal::DeadCell);
         }
         let slot = self.slots[cell as usize];
-        if slot.live { Ok(slot.contents) } else { Err(StoreRefusal::DeadCell) }
+        if slot.live {
+            Ok(slot.contents)
+        } else {
+            Err(StoreRefusal::DeadCell)
+        }
     }
 
     fn write(&mut self, cell: u16, contents: CellRecord) -> Result<(), StoreRefusal>
@@ -130,7 +147,10 @@ pub impl CellStore for MarkedStore<'_> as MarkedCellStore {
         if !slot.live {
             return Err(StoreRefusal::DeadCell);
         }
-        self.slots[cell as usize] = MarkedSlot { live: true, contents };
+        self.slots[cell as usize] = MarkedSlot {
+            live: true,
+            contents,
+        };
         Ok(())
     }
 

@@ -14,6 +14,9 @@ impl MarkedSlot {
     pub fn free() -> MarkedSlot
         ensures { λ r. ⌜ r .live ≡ false ⌝ }
     {
-        MarkedSlot { live: false, contents: CellRecord::bare(0) }
+        MarkedSlot {
+            live: false,
+            contents: CellRecord::bare(0),
+        }
     }
 }

@@ -36,7 +36,40 @@ impl<'b, S: CellStore> Shelf<'b, S> {
         ensures empty { λ r. ⌜ r .count ≡ 0 ⌝ }
         ensures lent { λ r. ⌜ name (r .below) ≡ name (below .entry) ⌝ }
     {
-        Shelf { below, kept: [MOST_CELLS; 16], count: 0 }
+        Shelf {
+            below,
+            kept: [MOST_CELLS; 16],
+            count: 0,
+        }
+    }
+
+    // Gives every cell on the shelf back below. The store below then means what the shelf means, before and after.
+    pub fn clear(&mut self)
+        ensures means { λ _. ⌜ S·CellStore .cells (now (now (self .exit) .below)) ≡ less (now (self .entry) .kept) (S·CellStore .cells (now (now (self .entry) .below))) ⌝ }
+        ensures same { λ _. ⌜ less (now (self .exit) .kept) (S·CellStore .cells (now (now (self .exit) .below))) ≡ less (now (self .entry) .kept) (S·CellStore .cells (now (now (self .entry) .below))) ⌝ }
+        ensures empty { λ _. ⌜ now (self .exit) .count ≡ 0 ⌝ }
+        ensures lent { λ _. ⌜ name (now (self .exit) .below) ≡ name (now (self .entry) .below) ⌝ }
+    {
+        while self.count > 0 {
+            self.count -= 1;
+            let top = self.kept[self.count];
+            self.kept[self.count] = MOST_CELLS;
+            let _ = self.below.give_back(top);
+        }
+    }
+
+    // The store below, which means what the shelf meant: every cell on the shelf is given back there.
+    pub fn into_below(mut self) -> &'b mut S
+        ensures means { λ r. ⌜ S·CellStore .cells (now r) ≡ less (self .entry .kept) (S·CellStore .cells (now (self .entry .below))) ⌝ }
+        ensures lent { λ r. ⌜ name r ≡ name (self .entry .below) ⌝ }
+    {
+        self.clear();
+        let Shelf {
+            below,
+            kept: _,
+            count: _,
+        } = self;
+        below
     }
 
     // Whether the number is on the shelf.

@@ -9,8 +9,9 @@ use Rattle.std.proofs.shelf.Lists.{drop-set-lt}
 use Rattle.stores.proofs.chain.link_all.Needs as need
 
 pub loop-i-again : need.loop-i-again
-loop-i-again c =
-    (below-more _ _
+loop-i-again c = (
+  below-more _ _
       (λ k h d. let ne : k ≢ c .loop-i .i = omega arith in rw getD-set-other (c .loop-i .inv .0 k h d))
       (λ d. let lt : c .loop-i .i < length (c .loop-i .slots) = omega arith in rw getD-set-same),
-      drop-set-lt 65535 (c .loop-i .slots) (c .loop-i .i) _ (omega arith) ∙ c .loop-i .inv .1)
+  drop-set-lt 65535 (c .loop-i .slots) (c .loop-i .i) _ (omega arith) ∙ c .loop-i .inv .1,
+)

@@ -10,18 +10,19 @@ use Rattle.stores.proofs.marked.first_free.Needs as need
 
 pub returns-then-not-slot : need.returns-then-not-slot
 returns-then-not-slot c =
-    let lt : c .loop-i .i < length (c .args .slots .now) = omega arith in
-    (c .loop-i-test .taken,
+    let lt : c .loop-i .i < length (c .args .slots .now) = omega arith in (
+      c .loop-i-test .taken,
       λ d.
-        mark-is (c .args .slots .now) (c .loop-i .i) (c .index-slots-i .result) d _ lt
-        (ap (λ (m : MarkedSlot). m .live) (sym (c .index-slots-i .is)) ∙ not-true _ (c .if-not-slot .taken)))
+          mark-is (c .args .slots .now) (c .loop-i .i) (c .index-slots-i .result) d _ lt
+          (ap (λ (m : MarkedSlot). m .live) (sym (c .index-slots-i .is)) ∙ not-true _ (c .if-not-slot .taken)),
+    )
 
 pub loop-i-again : need.loop-i-again
 loop-i-again c k d from below =
     let lt : c .loop-i .i < length (c .args .slots .now) = omega arith in
     let here =
-      mark-is (c .args .slots .now) (c .loop-i .i) (c .index-slots-i .result) d _ lt
-      (ap (λ (m : MarkedSlot). m .live) (sym (c .index-slots-i .is)) ∙ not-false _ (c .if-not-slot .left)) in
+    mark-is (c .args .slots .now) (c .loop-i .i) (c .index-slots-i .result) d _ lt
+    (ap (λ (m : MarkedSlot). m .live) (sym (c .index-slots-i .is)) ∙ not-false _ (c .if-not-slot .left)) in
     ⊎-elim
     (λ (q : k ≡ c .loop-i .i). ap (λ j. getD (c .args .slots .now) j d .live) q ∙ here)
     (λ (ne : k ≡ c .loop-i .i → ⊥). c .loop-i .inv k d from (omega (arith, ne, below)))

@@ -14,8 +14,9 @@ loop-i-again c =
     let i = c .loop-i .i in
     let s = c .loop-i .slots in
     let x : MarkedSlot = record { live = false; contents = getD (c .loop-i .slots) (c .loop-i .i) (c .index-slots-i .result) .contents } in
-    let within : c .loop-i .i < length (c .loop-i .slots) = omega arith in
-    (below-more _ i
-      (λ k h d. ap (λ (m : MarkedSlot). m .live) (getD-set-other s i k x d (omega (arith, h))) ∙ c .loop-i .inv .0 k h d)
-      (λ d. ap (λ (m : MarkedSlot). m .live) (getD-set-same s i x d within)),
-      drop-set-lt 65535 s i x (omega arith) ∙ c .loop-i .inv .1)
+    let within : c .loop-i .i < length (c .loop-i .slots) = omega arith in (
+      below-more _ i
+          (λ k h d. ap (λ (m : MarkedSlot). m .live) (getD-set-other s i k x d (omega (arith, h))) ∙ c .loop-i .inv .0 k h d)
+          (λ d. ap (λ (m : MarkedSlot). m .live) (getD-set-same s i x d within)),
+      drop-set-lt 65535 s i x (omega arith) ∙ c .loop-i .inv .1,
+    )

@@ -28,10 +28,13 @@ ghost-self c =
     let s = c .args .self .now in
     let x = Free (s .free) in
     let count = count-slot chainCell (s .slots .now) (s .capacity) (s .sized) (c .args .cell) _ x _ (c .if-cell-self .left) (ap chainCell (c .in-Live .is)) in
-    let some : 1 ≤ c .args .self .now .live = omega (arith, s .counted, count) in
-    (kept-size (s .slots .now) (s .capacity) (c .args .cell) x (s .sized),
-      (omega (arith, s .counted, count),
-      (given-link (s .slots .now) (s .capacity) (s .sized) (s .free) (s .live) (c .args .cell) _ _ (s .counted) some (s .linked) (c .if-cell-self .left) (c .in-Live .is), tt)))
+    let some : 1 ≤ c .args .self .now .live = omega (arith, s .counted, count) in (
+      kept-size (s .slots .now) (s .capacity) (c .args .cell) x (s .sized),
+      (
+        omega (arith, s .counted, count),
+        (given-link (s .slots .now) (s .capacity) (s .sized) (s .free) (s .live) (c .args .cell) _ _ (s .counted) some (s .linked) (c .if-cell-self .left) (c .in-Live .is), tt),
+      ),
+    )
 
 pub returns-in-Live : need.returns-in-Live
 returns-in-Live c =

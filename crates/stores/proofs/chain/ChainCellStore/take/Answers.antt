@@ -30,10 +30,13 @@ pub ghost-self : need.ghost-self
 ghost-self c =
     let s = c .args .self .now in
     let x = Live (c .args .contents) in
-    let count = count-slot chainCell (s .slots .now) (s .capacity) (s .sized) (s .free) _ x _ (c .if-head-self .left) (ap chainCell (c .in-Free .is)) in
-    (kept-size (s .slots .now) (s .capacity) (s .free) x (s .sized),
-      (omega (arith, s .counted, count),
-      (taken-link (s .slots .now) (s .capacity) (s .sized) (s .free) (s .live) _ _ x (s .linked) (c .if-head-self .left) (c .in-Free .is), tt)))
+    let count = count-slot chainCell (s .slots .now) (s .capacity) (s .sized) (s .free) _ x _ (c .if-head-self .left) (ap chainCell (c .in-Free .is)) in (
+      kept-size (s .slots .now) (s .capacity) (s .free) x (s .sized),
+      (
+        omega (arith, s .counted, count),
+        (taken-link (s .slots .now) (s .capacity) (s .sized) (s .free) (s .live) _ _ x (s .linked) (c .if-head-self .left) (c .in-Free .is), tt),
+      ),
+    )
 
 pub unreachable-requires : need.unreachable-requires
 unreachable-requires c κs =

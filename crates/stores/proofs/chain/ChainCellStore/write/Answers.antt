@@ -20,10 +20,13 @@ pub ghost-self : need.ghost-self
 ghost-self c =
     let s = c .args .self .now in
     let x = Live (c .args .contents) in
-    let count = count-slot chainCell (s .slots .now) (s .capacity) (s .sized) (c .args .cell) _ x _ (c .if-cell-self .left) (ap chainCell (c .in-Live .is)) in
-    (kept-size (s .slots .now) (s .capacity) (c .args .cell) x (s .sized),
-      (omega (arith, s .counted, count),
-      (written-link (s .slots .now) (s .capacity) (s .sized) (s .free) (s .live) (c .args .cell) _ _ x (s .linked) (c .if-cell-self .left) (c .in-Live .is), tt)))
+    let count = count-slot chainCell (s .slots .now) (s .capacity) (s .sized) (c .args .cell) _ x _ (c .if-cell-self .left) (ap chainCell (c .in-Live .is)) in (
+      kept-size (s .slots .now) (s .capacity) (c .args .cell) x (s .sized),
+      (
+        omega (arith, s .counted, count),
+        (written-link (s .slots .now) (s .capacity) (s .sized) (s .free) (s .live) (c .args .cell) _ _ x (s .linked) (c .if-cell-self .left) (c .in-Live .is), tt),
+      ),
+    )
 
 pub returns-in-Live : need.returns-in-Live
 returns-in-Live c =

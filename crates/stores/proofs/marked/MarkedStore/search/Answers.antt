@@ -14,9 +14,9 @@ use Rattle.stores.proofs.marked.MarkedStore.search.Needs as need
 
 -- the slots from the last search on, and then those before it
 both : (s : List MarkedSlot) (next capacity : ℕ) (answer : Option ℕ) → next ≤ capacity
-  → ((k : ℕ) (d : MarkedSlot) → next ≤ k → k < capacity → getD s k d .live ≡ true)
-  → Cases answer ((k : ℕ) (d : MarkedSlot) → 0 ≤ k → k < next → getD s k d .live ≡ true) (λ i. (i < next) × ((d : MarkedSlot) → getD s i d .live ≡ false))
-  → Cases answer ((k : ℕ) (d : MarkedSlot) → k < capacity → getD s k d .live ≡ true) (λ i. (i < capacity) × ((d : MarkedSlot) → getD s i d .live ≡ false))
+    → ((k : ℕ) (d : MarkedSlot) → next ≤ k → k < capacity → getD s k d .live ≡ true)
+    → Cases answer ((k : ℕ) (d : MarkedSlot) → 0 ≤ k → k < next → getD s k d .live ≡ true) (λ i. (i < next) × ((d : MarkedSlot) → getD s i d .live ≡ false))
+    → Cases answer ((k : ℕ) (d : MarkedSlot) → k < capacity → getD s k d .live ≡ true) (λ i. (i < capacity) × ((d : MarkedSlot) → getD s i d .live ≡ false))
 both s next capacity None inside late early = λ k d h. ⊎-elim (λ (b : k < next). early k d (omega arith) b) (λ (a : next ≤ k). late k d a h) (cases-lt k next)
 both s next capacity (Some i) inside late found = (omega (arith, found .0), found .1)
 

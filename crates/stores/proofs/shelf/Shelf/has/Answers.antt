@@ -24,14 +24,14 @@ loop-i-again g c =
     let i = c .loop-i .i in
     let more = among-more (s .kept) i 0 (c .args .cell) (omega (arith, s .sixteen, c .loop-i-test .taken)) in
     elim (c .if-self-i .came) [
-      then-self-i w ↦
-        w .found-is ∙ or-true (c .loop-i .found)
-        ∙ ap (λ b. c .loop-i .found || b) (sym (eq-eqb (getD (s .kept) i 0) (c .args .cell) (w .if-self-i .taken)))
-        ∙ ap (λ b. b || eqb (getD (s .kept) i 0) (c .args .cell)) (c .loop-i .inv) ∙ sym more
-    | else-self-i w ↦
-        w .found-is ∙ or-false (c .loop-i .found)
-        ∙ ap (λ b. c .loop-i .found || b) (sym (ne-eqb (getD (s .kept) i 0) (c .args .cell) (w .if-self-i .left)))
-        ∙ ap (λ b. b || eqb (getD (s .kept) i 0) (c .args .cell)) (c .loop-i .inv) ∙ sym more
+      | then-self-i w ↦
+          w .found-is ∙ or-true (c .loop-i .found)
+          ∙ ap (λ b. c .loop-i .found || b) (sym (eq-eqb (getD (s .kept) i 0) (c .args .cell) (w .if-self-i .taken)))
+          ∙ ap (λ b. b || eqb (getD (s .kept) i 0) (c .args .cell)) (c .loop-i .inv) ∙ sym more
+      | else-self-i w ↦
+          w .found-is ∙ or-false (c .loop-i .found)
+          ∙ ap (λ b. c .loop-i .found || b) (sym (ne-eqb (getD (s .kept) i 0) (c .args .cell) (w .if-self-i .left)))
+          ∙ ap (λ b. b || eqb (getD (s .kept) i 0) (c .args .cell)) (c .loop-i .inv) ∙ sym more
     ]
 
 pub returns : need.returns

@@ -35,11 +35,16 @@ returns-then-self-ge-PLACES g c =
 
 pub ghost-self-in-Ok : need.ghost-self-in-Ok
 ghost-self-in-Ok g c =
-    let s = c .args .self .now in
-    (length-set (s .kept) (s .count) (c .args .cell) ∙ s .sixteen,
-      (omega (arith, c .if-self-ge-PLACES .left),
-      (bare-on (s .kept) (s .count) (c .args .cell) (c .if-self-ge-PLACES .left) (s .sixteen) (s .bare),
-      (apart-on (s .kept) (s .count) (c .args .cell) (sym (c .if-has .ensures tt)) (s .once), tt))))
+    let s = c .args .self .now in (
+      length-set (s .kept) (s .count) (c .args .cell) ∙ s .sixteen,
+      (
+        omega (arith, c .if-self-ge-PLACES .left),
+        (
+          bare-on (s .kept) (s .count) (c .args .cell) (c .if-self-ge-PLACES .left) (s .sixteen) (s .bare),
+          (apart-on (s .kept) (s .count) (c .args .cell) (sym (c .if-has .ensures tt)) (s .once), tt),
+        ),
+      ),
+    )
 
 pub returns-in-Ok : need.returns-in-Ok
 returns-in-Ok g c =
@@ -53,11 +58,12 @@ returns-in-Ok g c =
         live = ap isSome (at-beside (s .kept) cs (c .args .cell) (sym (c .if-has .ensures tt)) ∙ read-some cs (c .args .cell) _ (sym (c .read .ensures) ∙ c .in-Ok .is));
         after = less-on (s .kept) (s .count) (c .args .cell) cs (g .S·CellStore .small (s .below .now)) within none;
       };
-      keeps = λ few.
-        (λ ok.
-          ap (λ k. among (set (s .kept) (s .count) (c .args .cell)) k) (sym (getD-set-same (s .kept) (s .count) (c .args .cell) 0 within))
-          ∙ among-at (set (s .kept) (s .count) (c .args .cell)) (s .count) 0 (simp length-set within),
-          refl);
+      keeps = λ few. (
+        λ ok.
+            ap (λ k. among (set (s .kept) (s .count) (c .args .cell)) k) (sym (getD-set-same (s .kept) (s .count) (c .args .cell) 0 within))
+            ∙ among-at (set (s .kept) (s .count) (c .args .cell)) (s .count) 0 (simp length-set within),
+        refl,
+      );
       full = λ e. absurd (omega (arith, e, c .if-self-ge-PLACES .left));
       lent = refl;
     }

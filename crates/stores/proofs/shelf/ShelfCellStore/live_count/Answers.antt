@@ -30,8 +30,8 @@ loop-i-again g c =
     let within : c .loop-i .i < length (c .args .self .now .kept) = omega (arith, s .sixteen, c .loop-i-test .taken) in
     let is = sym (read-live cs k) ∙ ap isOk (sym (c .read .ensures)) ∙ sym (c .is-ok .ensures .value) in
     elim (c .if-is-ok .came) [
-      then-is-ok w ↦ omega (arith, w .live-is, c .loop-i .inv, count-live (s .kept) i cs (g .S·CellStore .small (s .below .now)) within (s .once) (is ∙ w .if-is-ok .taken))
-    | else-is-ok w ↦ w .live-is ∙ c .loop-i .inv ∙ sym (count-dead (s .kept) i cs within (not-live (at cs k) (λ live. true≢false (sym live ∙ is ∙ w .if-is-ok .left))))
+      | then-is-ok w ↦ omega (arith, w .live-is, c .loop-i .inv, count-live (s .kept) i cs (g .S·CellStore .small (s .below .now)) within (s .once) (is ∙ w .if-is-ok .taken))
+      | else-is-ok w ↦ w .live-is ∙ c .loop-i .inv ∙ sym (count-dead (s .kept) i cs within (not-live (at cs k) (λ live. true≢false (sym live ∙ is ∙ w .if-is-ok .left))))
     ]
 
 pub returns : need.returns

@@ -19,10 +19,10 @@ returns-in-None g c =
     let got = c .in-None .ensures tt in
     let after = cells (c .take .last .self) in
     let bare : less (c .reuse .last .self .kept) (g .S·CellStore .cells (c .take .last .self)) ≡ g .S·CellStore .cells (c .take .last .self) =
-      ap (λ ks. less ks after) (got .found .1) ∙ less-none 16 after (g .S·CellStore .small (c .take .last .self)) in
+    ap (λ ks. less ks after) (got .found .1) ∙ less-none 16 after (g .S·CellStore .small (c .take .last .self)) in
     record {
       means = subst (λ cs. Taken cs (c .args .contents) (c .take .result) (less (c .reuse .last .self .kept) after)) (got .found .0)
-        (subst (λ cs. Taken (cells (c .reuse .last .self .below .now)) (c .args .contents) (c .take .result) cs) (sym bare) (c .take .ensures));
+          (subst (λ cs. Taken (cells (c .reuse .last .self .below .now)) (c .args .contents) (c .take .result) cs) (sym bare) (c .take .ensures));
       first = λ k on live. absurd (both-ways (isLive entry k) (ap isSome (got .found .2 k on)) live);
       lent = got .lent;
     }
