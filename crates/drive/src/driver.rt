@@ -1,10 +1,10 @@
-use cells::refusals::StoreRefusal;
-use cells::refusals::StoreRefusalPartialEq;
-use cells::store::CellStore;
 use crate::calls::Call;
 use crate::calls::Source;
 use crate::model::Model;
 use crate::tally::Tally;
+use cells::refusals::StoreRefusal;
+use cells::refusals::StoreRefusalPartialEq;
+use cells::store::CellStore;
 
 // Makes one call on the store and on the model, and says whether the answers agree.
 fn make<S: CellStore>(store: &mut S, model: &mut Model, call: Call, tally: &mut Tally) -> bool {

@@ -4,29 +4,29 @@ mod driver;
 mod model;
 mod tally;
 
-use std::io;
-use cells::records::CellRecord;
-use cells::store::CellStore;
-use stores::chain::ChainCellStore;
-use stores::chain::ChainStore;
-use stores::chain_slots::ChainSlot;
-use stores::marked::MarkedCellStore;
-use stores::marked::MarkedStore;
-use stores::marked_slots::MarkedSlot;
-use stores::shelf::Shelf;
-use stores::shelf::ShelfCellStore;
 use crate::driver::drive;
 use crate::model::Model;
 use crate::model::ModelCell;
 use crate::tally::Tally;
 use crate::tally::TallyDisplay;
+use cells::records::CellRecord;
+use cells::store::CellStore;
+use chain::slots::ChainSlot;
+use chain::store::ChainCellStore;
+use chain::store::ChainStore;
+use marked::slots::MarkedSlot;
+use marked::store::MarkedCellStore;
+use marked::store::MarkedStore;
+use shelf::Shelf;
+use shelf::ShelfCellStore;
+use std::io;
 
-fn chain(slots: &mut [ChainSlot], cells: &mut [ModelCell]) -> Tally {
+fn over_chain(slots: &mut [ChainSlot], cells: &mut [ModelCell]) -> Tally {
     let mut store = ChainStore::new(slots);
     drive(&mut store, &mut Model::new(cells))
 }
 
-fn marked(slots: &mut [MarkedSlot], cells: &mut [ModelCell]) -> Tally {
+fn over_marked(slots: &mut [MarkedSlot], cells: &mut [ModelCell]) -> Tally {
     let mut store = MarkedStore::new(slots);
     drive(&mut store, &mut Model::new(cells))
 }
@@ -70,8 +70,13 @@ fn marked_rest(slots: &[MarkedSlot]) -> usize {
     let mut count = 0usize;
     for i in 65535..slots.len() {
         let slot = slots[i];
-        if slot.live && slot.contents.constructor == 7 {
-            count = count.saturating_add(1);
+        match slot {
+            MarkedSlot::Live(contents) => {
+                if contents.constructor == 7 {
+                    count = count.saturating_add(1);
+                }
+            }
+            MarkedSlot::Free => {}
         }
     }
     count
@@ -82,12 +87,15 @@ fn main(rt: LibcRuntime) -> io::Result<()> {
     for size in [0usize, 1, 16, 17, 65535, 65540] {
         let capacity = size.min(65535);
         let mut chain_slots = vec![in rt.alloc(); LENT; size]?;
-        let mut marked_slots = vec![in rt.alloc(); MarkedSlot { live: true, contents: CellRecord::bare(7) }; size]?;
+        let mut marked_slots = vec![in rt.alloc(); MarkedSlot {
+            live: true,
+            contents: CellRecord::bare(7)
+        }; size]?;
         let mut cells = vec![in rt.alloc(); ModelCell::Free; capacity]?;
         println!(out, "{size} cells handed over")?;
-        let seen = chain(chain_slots.as_mut_slice(), cells.as_mut_slice());
+        let seen = over_chain(chain_slots.as_mut_slice(), cells.as_mut_slice());
         println!(out, "  chain: {seen}")?;
-        let seen = marked(marked_slots.as_mut_slice(), cells.as_mut_slice());
+        let seen = over_marked(marked_slots.as_mut_slice(), cells.as_mut_slice());
         println!(out, "  marked: {seen}")?;
         let seen = shelf_over_chain(chain_slots.as_mut_slice(), cells.as_mut_slice());
         println!(out, "  shelf over chain: {seen}")?;
@@ -98,7 +106,10 @@ fn main(rt: LibcRuntime) -> io::Result<()> {
         let chain_kept = chain_rest(chain_slots.as_slice());
         let marked_kept = marked_rest(marked_slots.as_slice());
         let rest = size - capacity;
-        println!(out, "  past 65535: {rest} cells, {chain_kept} of the chain's slots and {marked_kept} of the marked ones untouched")?;
+        println!(
+            out,
+            "  past 65535: {rest} cells, {chain_kept} of the chain's slots and {marked_kept} of the marked ones untouched"
+        )?;
     }
     Ok(())
 }

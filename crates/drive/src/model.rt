@@ -36,7 +36,11 @@ impl<'m> Model<'m> {
     pub fn get(&self, cell: u16) -> ModelCell {
         let cells = &self.cells[..];
         let i = cell as usize;
-        if i < cells.len() { cells[i] } else { ModelCell::Free }
+        if i < cells.len() {
+            cells[i]
+        } else {
+            ModelCell::Free
+        }
     }
 
     pub fn is_live(&self, cell: u16) -> bool {

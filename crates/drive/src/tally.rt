@@ -12,7 +12,13 @@ pub struct Tally {
 
 impl Tally {
     pub fn new() -> Tally {
-        Tally { calls: 0, dead: 0, none_free: 0, most: 0, differ: 0 }
+        Tally {
+            calls: 0,
+            dead: 0,
+            none_free: 0,
+            most: 0,
+            differ: 0,
+        }
     }
 
     // Notes a call: whether store and model agree, and how many cells are live after it.
@@ -41,6 +47,9 @@ pub impl fmt::Display for Tally as TallyDisplay {
         let none_free = self.none_free;
         let most = self.most;
         let differ = self.differ;
-        write!(f, "{calls} calls, {dead} refused 20, {none_free} refused 22, {most} live at most, {differ} differ")
+        write!(
+            f,
+            "{calls} calls, {dead} refused 20, {none_free} refused 22, {most} live at most, {differ} differ"
+        )
     }
 }
