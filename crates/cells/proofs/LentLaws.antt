@@ -2,7 +2,7 @@
 use mathlib.Core.Path.{_≡_, refl, sym, ap, _∙_}
 use mathlib.Core.Bool.{Bool, true, false}
 use mathlib.Core.List.{List, [], _∷_, map}
-use Prim.Native.Nat.{ℕ, zero, suc, _+_, _<_, _≤_, min}
+use Prim.Native.Nat.{ℕ, zero, suc, _+_, _-_, _<_, _≤_, min}
 use native.Mathlib.Omega.{arith}
 use lib.ListN.{length, getD, set, take, drop, replicate}
 use Rattle.std.specs.Options.{isSome, okOr}
@@ -87,6 +87,13 @@ module _ {X : Type 0} (f : X → Option CellRecord) (s : List X) (capacity : ℕ
       ap (λ o. liveCount (meant f (set s i x)) + one o) (sym (meant-at i d h ∙ e))
       ∙ ap (λ l. liveCount l + one (at (meant f s) i)) (meant-set i x)
       ∙ count-set (meant f s) i (f x) (omega (arith, meant-length))
+
+  -- a live cell written, and one given back
+  pub count-same : (live i : ℕ) (d x : X) (r q : CellRecord) → live ≡ liveCount (meant f s) → i < capacity → f (getD s i d) ≡ Some r → f x ≡ Some q → live ≡ liveCount (meant f (set s i x))
+  count-same live i d x r q counted h e w = omega (arith, counted, count-slot i d x (Some r) h e, ap one w)
+
+  pub count-less : (live i : ℕ) (d x : X) (r : CellRecord) → live ≡ liveCount (meant f s) → i < capacity → f (getD s i d) ≡ Some r → f x ≡ None → live - 1 ≡ liveCount (meant f (set s i x))
+  count-less live i d x r counted h e w = omega (arith, counted, count-slot i d x (Some r) h e, ap one w)
 
   pub count-within : liveCount (meant f s) ≤ capacity
   count-within = omega (arith, meant-length, count-le (meant f s))

@@ -87,10 +87,7 @@ fn main(rt: LibcRuntime) -> io::Result<()> {
     for size in [0usize, 1, 16, 17, 65535, 65540] {
         let capacity = size.min(65535);
         let mut chain_slots = vec![in rt.alloc(); LENT; size]?;
-        let mut marked_slots = vec![in rt.alloc(); MarkedSlot {
-            live: true,
-            contents: CellRecord::bare(7)
-        }; size]?;
+        let mut marked_slots = vec![in rt.alloc(); MarkedSlot::Live(CellRecord::bare(7)); size]?;
         let mut cells = vec![in rt.alloc(); ModelCell::Free; capacity]?;
         println!(out, "{size} cells handed over")?;
         let seen = over_chain(chain_slots.as_mut_slice(), cells.as_mut_slice());

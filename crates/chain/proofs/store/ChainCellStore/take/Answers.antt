@@ -13,7 +13,7 @@ pub returns-then-head-self : need.returns-then-head-self
 returns-then-head-self c =
     let s = c .args .self .now in
     record {
-      means = full-chain (s .slots .now) (s .capacity) (s .sized) (s .free) (s .live) (s .counted) (s .linked) (c .if-head-self .taken);
+      means = full-chain (s .slots .now) (s .capacity) (s .sized) (s .free) (s .live) (s .counted) (s .linked) (omega arith);
       kept = record { same = refl; past = refl };
     }
 
@@ -30,13 +30,9 @@ pub ghost-self : need.ghost-self
 ghost-self c =
     let s = c .args .self .now in
     let x = Live (c .args .contents) in
-    let count = count-slot chainCell (s .slots .now) (s .capacity) (s .sized) (s .free) _ x _ (c .if-head-self .left) (ap chainCell (c .in-Free .is)) in (
-      kept-size (s .slots .now) (s .capacity) (s .free) x (s .sized),
-      (
-        omega (arith, s .counted, count),
-        (taken-link (s .slots .now) (s .capacity) (s .sized) (s .free) (s .live) _ _ x (s .linked) (c .if-head-self .left) (c .in-Free .is), tt),
-      ),
-    )
+    let count = count-slot chainCell (s .slots .now) (s .capacity) (s .sized) (s .free) _ x _ (c .if-head-self .left) (ap chainCell (c .in-Free .is)) in
+    let link = taken-link (s .slots .now) (s .capacity) (s .sized) (s .free) (s .live) _ _ x (s .linked) (c .if-head-self .left) (c .in-Free .is) in
+    (kept-size (s .slots .now) (s .capacity) (s .free) x (s .sized), (omega (arith, s .counted, count), (search needs, tt)))
 
 pub unreachable-requires : need.unreachable-requires
 unreachable-requires c κs =

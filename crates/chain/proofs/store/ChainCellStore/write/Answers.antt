@@ -1,10 +1,10 @@
 use mathlib.Core.Path.{refl, ap}
-use native.Mathlib.Omega.{arith}
+use borrow.Author.Needs.{needs}
 use Rattle.std.specs.Options.{isSome}
 use Rattle.std.specs.declared.option.Option.the-variants.{Some}
 use Rattle.chain.specs.declared.slots.ChainSlot.the-variants.{Live}
 use Rattle.chain.specs.Chains.{chainCell}
-use Rattle.cells.proofs.LentLaws.{kept-size, kept-past, dead-past, dead-slot, changed-slot, count-slot}
+use Rattle.cells.proofs.LentLaws.{kept-size, kept-past, dead-past, dead-slot, changed-slot, count-same}
 use Rattle.chain.proofs.ChainSteps.{written-link}
 use Rattle.chain.proofs.store.ChainCellStore.write.Needs as need
 
@@ -18,23 +18,21 @@ returns-then-cell-self c =
 
 pub ghost-self : need.ghost-self
 ghost-self c =
-    let s = c .args .self .now in
-    let x = Live (c .args .contents) in
-    let count = count-slot chainCell (s .slots .now) (s .capacity) (s .sized) (c .args .cell) _ x _ (c .if-cell-self .left) (ap chainCell (c .in-Live .is)) in (
-      kept-size (s .slots .now) (s .capacity) (c .args .cell) x (s .sized),
+    let s = c .args .self .now in (
+      kept-size (s .slots .now) (s .capacity) (c .args .cell) _ (s .sized),
       (
-        omega (arith, s .counted, count),
-        (written-link (s .slots .now) (s .capacity) (s .sized) (s .free) (s .live) (c .args .cell) _ _ x (s .linked) (c .if-cell-self .left) (c .in-Live .is), tt),
+        count-same chainCell (s .slots .now) (s .capacity) (s .sized) (s .live) (c .args .cell) _ _ _ _ (s .counted) (c .if-cell-self .left) (ap chainCell (c .in-Live .is)) refl,
+        (written-link (s .slots .now) (s .capacity) (s .sized) (s .free) (s .live) (c .args .cell) _ _ _ (s .linked) (c .if-cell-self .left) (c .in-Live .is), tt),
       ),
     )
 
 pub returns-in-Live : need.returns-in-Live
 returns-in-Live c =
     let s = c .args .self .now in
-    let x = Live (c .args .contents) in
+    let written = changed-slot chainCell (s .slots .now) (s .capacity) (s .sized) (c .args .cell) _ (Live (c .args .contents)) (Some (c .args .contents)) (c .if-cell-self .left) (ap (λ t. isSome (chainCell t)) (c .in-Live .is)) refl in
     record {
-      means = changed-slot chainCell (s .slots .now) (s .capacity) (s .sized) (c .args .cell) _ x (Some (c .args .contents)) (c .if-cell-self .left) (ap (λ t. isSome (chainCell t)) (c .in-Live .is)) refl;
-      kept = record { same = refl; past = kept-past (s .slots .now) (s .capacity) (c .args .cell) x (s .sized) (c .if-cell-self .left) };
+      means = search needs;
+      kept = record { same = refl; past = kept-past (s .slots .now) (s .capacity) (c .args .cell) _ (s .sized) (c .if-cell-self .left) };
     }
 
 pub returns-in-Free : need.returns-in-Free

@@ -1,3 +1,4 @@
+use borrow.Author.Needs.{needs}
 use mathlib.Core.Path.{ap}
 use Rattle.marked.specs.Marks.{markedCell}
 use Rattle.cells.proofs.LentLaws.{read-past, read-dead, read-live}
@@ -11,7 +12,8 @@ returns-then-cell-self c =
 pub returns-in-Live : need.returns-in-Live
 returns-in-Live c =
     let s = c .args .self .now in
-    read-live markedCell (s .slots .now) (s .capacity) (s .sized) (c .args .cell) _ _ (c .if-cell-self .left) (ap markedCell (c .in-Live .is))
+    let got = read-live markedCell (s .slots .now) (s .capacity) (s .sized) (c .args .cell) _ _ (c .if-cell-self .left) (ap markedCell (c .in-Live .is)) in
+    search needs
 
 pub returns-in-Free : need.returns-in-Free
 returns-in-Free c =

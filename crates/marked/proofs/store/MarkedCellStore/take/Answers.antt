@@ -17,7 +17,7 @@ returns-then-self c =
       means = record {
         number = refl;
         same = refl;
-        full = λ k h. count-full (meant markedCell (s .slots .now)) k (sym (s .counted) ∙ c .if-self .taken ∙ sym (meant-length markedCell (s .slots .now) (s .capacity) (s .sized))) h;
+        full = λ k h. count-full (meant markedCell (s .slots .now)) k (omega (arith, s .counted, meant-length markedCell (s .slots .now) (s .capacity) (s .sized), c .if-self .taken)) h;
       };
       kept = record { same = refl; past = refl };
     }

@@ -11,7 +11,7 @@ use Rattle.marked.proofs.store.MarkedStore.new.Needs as need
 pub ghost-result : need.ghost-result
 ghost-result c =
     let sized : c .min-count .result ≡ min (length (c .free-all .last .slots)) 65535 = search needs in
-    (sized, (empty-count markedCell (c .free-all .last .slots) (c .min-count .result) sized (c .free-all .ensures .freed), (omega arith, tt)))
+    (sized, (omega (arith, empty-count markedCell (c .free-all .last .slots) (c .min-count .result) sized (c .free-all .ensures .freed)), (omega arith, tt)))
 
 pub returns : need.returns
 returns c =
