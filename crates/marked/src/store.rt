@@ -108,11 +108,11 @@ pub impl CellStore for MarkedStore<'_> as MarkedCellStore {
             return Err(StoreRefusal::NoFreeCell);
         }
         match self.search() {
-            Some(cell) => {
-                self.slots[cell as usize] = MarkedSlot::Live(contents);
+            Some(found) => {
+                self.slots[found as usize] = MarkedSlot::Live(contents);
                 self.live += 1;
-                self.next = cell + 1;
-                Ok(cell)
+                self.next = found + 1;
+                Ok(found)
             }
             None => unreachable(),
         }

@@ -50,11 +50,12 @@ impl<'b, S: CellStore> Shelf<'b, S> {
         ensures empty { λ _. ⌜ now (self .exit) .count ≡ 0 ⌝ }
         ensures lent { λ _. ⌜ name (now (self .exit) .below) ≡ name (now (self .entry) .below) ⌝ }
     {
-        while self.count > 0 {
-            self.count -= 1;
-            let top = self.kept[self.count];
-            self.kept[self.count] = MOST_CELLS;
-            let _ = self.below.give_back(top);
+        while self.count != 0 {
+            let last = self.count - 1;
+            let cell = self.kept[last];
+            self.kept[last] = MOST_CELLS;
+            self.count = last;
+            let _ = self.below.give_back(cell);
         }
     }
 

@@ -3,6 +3,7 @@ use mathlib.Core.Bool.{true}
 use mathlib.Core.List.{List}
 use Prim.Native.Nat.{_-_, _+_, _<_}
 use native.Mathlib.Omega.{arith}
+use borrow.Author.Needs.{needs}
 use lib.ListN.{getD, set, length}
 use Rattle.std.proofs.shelf.Lists.{length-set}
 use Rattle.std.proofs.shelf.Tests.{true≢false}
@@ -16,16 +17,10 @@ pub ghost-self : need.ghost-self
 ghost-self g c =
     let s = c .loop-self .self in
     let n = s .count - 1 in
-    let one-less : s .count - 1 + 1 ≡ s .count = omega (arith, c .loop-self-test .taken) in (
-      length-set (s .kept) n 65535 ∙ s .sixteen,
-      (
-        omega (arith, s .few),
-        (
-          bare-off (s .kept) (s .count) n one-less (s .few) (s .sixteen) (s .bare),
-          (apart-off (s .kept) n (s .once), tt),
-        ),
-      ),
-    )
+    let one-less : s .count - 1 + 1 ≡ s .count = omega (arith, c .loop-self-test .taken) in
+    let bare = bare-off (s .kept) (s .count) n one-less (s .few) (s .sixteen) (s .bare) in
+    let once = apart-off (s .kept) n (s .once) in
+    (length-set (s .kept) n _ ∙ s .sixteen, (omega (arith, s .few), (search needs, (search needs, tt))))
 
 pub returns-then-is-ok : need.returns-then-is-ok
 returns-then-is-ok g c =
@@ -65,7 +60,7 @@ returns g c =
     let cells = g .S·CellStore .cells in
     let entry = cells (c .args .self .now .below .now) in
     let small = g .S·CellStore .small (c .args .self .now .below .now) in
-    let none = emptied (s .kept) (s .count) (c .loop-self-test .left) (s .bare) in
+    let none = emptied (s .kept) (s .count) (omega (arith, c .loop-self-test .left)) (s .bare) in
     record {
       found = (
         sym (ap (λ ks. less ks (cells (s .below .now))) none ∙ less-none 16 (cells (s .below .now)) (g .S·CellStore .small (s .below .now))) ∙ c .loop-self .inv .1,

@@ -2,6 +2,7 @@ use mathlib.Core.Path.{_≡_, sym, ap, refl, _∙_}
 use mathlib.Core.Bool.{true}
 use Prim.Native.Nat.{suc, _-_, _+_, _<_}
 use native.Mathlib.Omega.{arith}
+use borrow.Author.Needs.{needs}
 use lib.ListN.{length, set, replicate, getD}
 use Rattle.std.specs.Options.{isSome}
 use Rattle.std.specs.Results.{isOk}
@@ -35,12 +36,13 @@ returns-then-self-ge-PLACES g c =
 
 pub ghost-self-in-Ok : need.ghost-self-in-Ok
 ghost-self-in-Ok g c =
-    let s = c .args .self .now in (
-      length-set (s .kept) (s .count) (c .args .cell) ∙ s .sixteen,
+    let s = c .args .self .now in
+    let bare = bare-on (s .kept) (s .count) (c .args .cell) (c .if-self-ge-PLACES .left) (s .sixteen) (s .bare) in (
+      length-set (s .kept) (s .count) _ ∙ s .sixteen,
       (
         omega (arith, c .if-self-ge-PLACES .left),
         (
-          bare-on (s .kept) (s .count) (c .args .cell) (c .if-self-ge-PLACES .left) (s .sixteen) (s .bare),
+          search needs,
           (apart-on (s .kept) (s .count) (c .args .cell) (sym (c .if-has .ensures tt)) (s .once), tt),
         ),
       ),

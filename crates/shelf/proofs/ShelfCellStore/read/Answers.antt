@@ -1,4 +1,4 @@
-use mathlib.Core.Path.{sym, ap, _∙_}
+use mathlib.Core.Path.{sym, ap}
 use Rattle.std.specs.Options.{okOr}
 use Rattle.cells.specs.declared.refusals.StoreRefusal.the-variants.{DeadCell}
 use Rattle.shelf.proofs.ShelfLaws.{at-among, at-beside}
@@ -12,4 +12,5 @@ returns-then-has g c =
 pub returns : need.returns
 returns g c =
     let s = c .args .self .now in
-    c .read .ensures ∙ sym (ap (λ o. okOr o DeadCell) (at-beside (s .kept) (g .S·CellStore .cells (s .below .now)) (c .args .cell) (sym (c .if-has .ensures tt))))
+    let beside = ap (λ o. okOr o DeadCell) (at-beside (s .kept) (g .S·CellStore .cells (s .below .now)) (c .args .cell) (sym (c .if-has .ensures tt))) in
+    cc (c .read .ensures, beside)

@@ -1,4 +1,5 @@
 use mathlib.Core.Path.{refl, sym}
+use borrow.Author.Needs.{needs}
 use Rattle.shelf.proofs.ShelfLaws.{dead-among, written-beside}
 use Rattle.shelf.proofs.ShelfCellStore.write.Needs as need
 
@@ -12,7 +13,7 @@ returns g c =
     let s = c .args .self .now in
     let cells = g .S·CellStore .cells in
     record {
-      means = written-beside (s .kept) (cells (s .below .now)) (cells (c .write .last .self)) (c .args .cell) (c .args .contents) (c .write .result) (sym (c .if-has .ensures tt)) (c .write .ensures);
+      means = written-beside (s .kept) (cells (s .below .now)) (cells (c .write .last .self)) (c .args .cell) (c .args .contents) (c .write .result) (sym (c .if-has .ensures tt)) (search needs);
       same = refl;
       lent = refl;
     }

@@ -31,11 +31,11 @@ add-self c =
 pub ghost-self : need.ghost-self
 ghost-self c =
     let s = c .args .self .now in
-    let i = c .in-Some .cell in
+    let i = c .in-Some .found in
     let x = Live (c .args .contents) in
-    let found = c .in-Some .ensures tt in
-    let count = count-slot markedCell (s .slots .now) (s .capacity) (s .sized) i x x _ (found .0) (found .1 x) in
-    (kept-size (s .slots .now) (s .capacity) i x (s .sized), (omega (arith, s .counted, count), (omega (arith, found .0), tt)))
+    let is = c .in-Some .ensures tt in
+    let count = count-slot markedCell (s .slots .now) (s .capacity) (s .sized) i x x _ (is .0) (is .1 x) in
+    (kept-size (s .slots .now) (s .capacity) i x (s .sized), (omega (arith, s .counted, count), (omega (arith, is .0), tt)))
 
 pub unreachable-requires : need.unreachable-requires
 unreachable-requires c κs =
@@ -45,10 +45,10 @@ unreachable-requires c κs =
 pub returns : need.returns
 returns c =
     let s = c .args .self .now in
-    let i = c .in-Some .cell in
+    let i = c .in-Some .found in
     let x = Live (c .args .contents) in
-    let found = c .in-Some .ensures tt in
+    let is = c .in-Some .ensures tt in
     record {
-      means = taken-slot markedCell (s .slots .now) (s .capacity) (s .sized) i x x (c .args .contents) (found .0) (found .1 x) refl;
-      kept = record { same = refl; past = kept-past (s .slots .now) (s .capacity) i x (s .sized) (found .0) };
+      means = taken-slot markedCell (s .slots .now) (s .capacity) (s .sized) i x x (c .args .contents) (is .0) (is .1 x) refl;
+      kept = record { same = refl; past = kept-past (s .slots .now) (s .capacity) i x (s .sized) (is .0) };
     }
