@@ -1,0 +1,5 @@
+pub mod CellLaws
+pub mod RecordLaws
+pub mod Calls
+pub mod Pairs
+pub mod LentLaws

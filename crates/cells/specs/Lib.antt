@@ -1,0 +1,7 @@
+pub mod Kinds
+pub mod Values
+pub mod Records
+pub mod Refusals
+pub mod Meaning
+pub mod Laws
+pub mod Lent
