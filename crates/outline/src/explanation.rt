@@ -1,36 +1,40 @@
-// Why a text is refused, in words for the script's author.
+// A refusal as people read it: where it is, the line that it stands on with a mark under the place, and what to do.
+ghost use mathlib.Core.Path.{_≡_};
+ghost use Rattle.std.specs.Of.String.{string-bytes};
+ghost use Rattle.std.specs.Vec.{made};
+ghost use Rattle.outline.specs.Explained.{headed, explained};
 use super::lines::lead;
 use super::lines::line_around;
+use super::position::Position;
 use super::position::position_of;
 use super::shown::mark_row;
 use super::shown::shown;
-use std::io;
-use text::Refusal;
-use text::Refused;
+use std::alloc::AllocError;
+use std::alloc::Global;
 
-// What is wrong, and what to do.
-fn advice(refusal: Refusal) -> &'static str {
-    match refusal {
-        Refusal::Symbol => "This symbol is not closed, or a backslash in it stands before another byte than ' or a backslash: end it with ', and write \\' and \\\\ inside.",
-        Refusal::Integer => "This integer does not fit 32 bits: write one from -2147483648 to 2147483647.",
-        Refusal::Bracket => "A closing bracket is missing here, or this one does not match: give each ( its ) and each [ its ].",
-        Refusal::Limit => "A limit is passed here: a text has at most 65535 bytes, a name 63, a symbol 255 between its quotes, and at most 64 brackets are open; shorten it or split it.",
-    }
-}
-
-// Prints the refusal with its place, the line that it stands on with a mark under the place, and the advice.
-pub fn explain(rt: &LibcRuntime, text: &[u8], refused: Refused) -> io::Result<()> {
-    let number = refused.refusal.number();
-    let place = refused.place;
-    let position = position_of(text, place);
+fn heading(heap: Global, number: u8, place: usize, position: Position) -> Result<String, AllocError>
+    ensures { λ r. ⌜ made r (λ t. string-bytes t ≡ headed number place (position .line) (position .column)) ⌝ }
+{
     let line = position.line;
     let column = position.column;
-    let source = shown(rt.alloc(), line_around(text, place))?;
-    let mark = mark_row(rt.alloc(), lead(text, place))?;
-    let advice = advice(refused.refusal);
-    println!(rt, "refused {number} at {place}")?;
-    println!(rt, "line {line}, column {column}")?;
-    println!(rt, "{source}")?;
-    println!(rt, "{mark}")?;
-    println!(rt, "{advice}")
+    format!(
+        heap,
+        "refused {number} at {place}\nline {line}, column {column}\n"
+    )
+}
+
+// The refusal with this number at this place of the text, and the advice.
+pub fn explanation(
+    heap: Global,
+    text: &[u8],
+    number: u8,
+    place: usize,
+    advice: &str,
+) -> Result<String, AllocError>
+    ensures { λ r. ⌜ made r (λ t. string-bytes t ≡ explained (now (text .entry)) number place (now (advice .entry))) ⌝ }
+{
+    let head = heading(heap, number, place, position_of(text, place))?;
+    let source = shown(heap, line_around(text, place))?;
+    let mark = mark_row(heap, lead(text, place))?;
+    format!(heap, "{head}{source}\n{mark}\n{advice}\n")
 }

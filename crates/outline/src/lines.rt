@@ -60,7 +60,11 @@ pub fn before(text: &[u8], place: usize) -> &[u8]
     ensures value { λ r. ⌜ now r ≡ take place (now (text .entry)) ⌝ }
     ensures within { λ r. ⌜ length (now r) ≤ length (now (text .entry)) ⌝ }
 {
-    if place < text.len() { &text[..place] } else { text }
+    if place < text.len() {
+        &text[..place]
+    } else {
+        text
+    }
 }
 
 // What stands before the place on its line.

@@ -1,4 +1,5 @@
 // The program `outline`: prints the tokens of `script.com`, or says in plain words why the text is refused and where.
+mod advice;
 mod explanation;
 mod lines;
 mod listing;
@@ -6,11 +7,19 @@ mod position;
 mod shown;
 mod source;
 
-use explanation::explain;
+use advice::advice;
+use explanation::explanation;
 use listing::list_tokens;
 use source::read_script;
 use std::io;
+use text::Refused;
 use text::scan;
+
+fn explain(rt: &LibcRuntime, script: &[u8], refused: Refused) -> io::Result<()> {
+    let number = refused.refusal.number();
+    let words = advice(refused.refusal);
+    rt.print(explanation(rt.alloc(), script, number, refused.place, words)?)
+}
 
 fn main(rt: LibcRuntime) -> io::Result<()> {
     let script = read_script(&rt)?;

@@ -1,7 +1,8 @@
 // Bytes as they are shown to people: one column for each, whatever the byte.
 ghost use mathlib.Core.Path.{_≡_};
-ghost use mathlib.Core.List.{map, [], _∷_, _++_};
+ghost use mathlib.Core.List.{map, _++_};
 ghost use Prim.Native.Nat.{_<_};
+ghost use lib.Chars.{codes};
 ghost use Rattle.std.specs.Of.String.{string-bytes};
 ghost use Rattle.std.specs.Vec.{made};
 ghost use Rattle.outline.specs.Shown.{shownByte, underByte};
@@ -41,7 +42,7 @@ pub fn shown(heap: Global, bytes: &[u8]) -> Result<String, AllocError>
 
 // The row under a line, with the mark under the byte that follows `lead`.
 pub fn mark_row(heap: Global, lead: &[u8]) -> Result<String, AllocError>
-    ensures { λ r. ⌜ made r (λ t. string-bytes t ≡ map underByte (now (lead .entry)) ++ 94 ∷ []) ⌝ }
+    ensures { λ r. ⌜ made r (λ t. string-bytes t ≡ map underByte (now (lead .entry)) ++ codes "^") ⌝ }
 {
     let mut row = String::new(heap);
     for b in lead {

@@ -105,7 +105,10 @@ impl Run {
                 let tokens = listing(rt.alloc(), &self.case.text, count)?;
                 println!(rt, "line {line}: wrong, found accepted {count}\n{tokens}")
             }
-            Answer::Refused(number, place) => println!(rt, "line {line}: wrong, found refused {number} {place}"),
+            Answer::Refused(number, place) => println!(
+                rt,
+                "line {line}: wrong, found refused {number} {place}"
+            ),
         }
     }
 
@@ -123,5 +126,8 @@ fn print_tally(rt: &LibcRuntime, title: &str, tally: Tally) -> io::Result<()> {
     let accepted = tally.accepted;
     let refused = tally.refused;
     let wrong = tally.wrong;
-    println!(rt, "{title}: {accepted} accepted, {refused} refused, {wrong} wrong")
+    println!(
+        rt,
+        "{title}: {accepted} accepted, {refused} refused, {wrong} wrong"
+    )
 }

@@ -1,7 +1,8 @@
 use mathlib.Core.Path.{_∙_, ap}
-use mathlib.Core.List.{List, [], _∷_, _++_}
+use mathlib.Core.List.{List, _++_}
 use Prim.Native.Nat.{ℕ}
 use native.Mathlib.Omega.{arith}
+use lib.Chars.{codes}
 use lib.Utf8.{encode}
 use Rattle.outline.specs.Shown.{underByte}
 use Rattle.outline.proofs.RowLaws.{row-more, row-end}
@@ -12,4 +13,4 @@ loop-b-again c = row-more underByte (c .args .lead .now) (c .loop-b .b-index) (c
 
 pub returns : need.returns
 unfolding encode
-returns c = c .in-Continue-push-2 .ensures tt .bytes ∙ ap (λ (row : List ℕ). row ++ 94 ∷ []) (row-end underByte (c .args .lead .now) (c .loop-b .b-index) (c .loop-b-test .left) (c .loop-b .inv))
+returns c = c .in-Continue-push-2 .ensures tt .bytes ∙ ap (λ (row : List ℕ). row ++ codes "^") (row-end underByte (c .args .lead .now) (c .loop-b .b-index) (c .loop-b-test .left) (c .loop-b .inv))
