@@ -76,9 +76,10 @@ pub fn lead(text: &[u8], place: usize) -> &[u8]
     &front[start..]
 }
 
-// The line around the place, without its newline.
+// The line around the place, without its newline. It begins with what stands before the place there, so that a mark can stand under it.
 pub fn line_around(text: &[u8], place: usize) -> &[u8]
-    ensures { λ r. ⌜ now r ≡ lineAround (now (text .entry)) place ⌝ }
+    ensures value { λ r. ⌜ now r ≡ lineAround (now (text .entry)) place ⌝ }
+    ensures begins { λ r. ⌜ take (length (leadOf (now (text .entry)) place)) (now r) ≡ leadOf (now (text .entry)) place ⌝ }
 {
     let front = before(text, place);
     let start = front.len() - since_newline(front);
