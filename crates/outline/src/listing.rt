@@ -1,5 +1,5 @@
 // The tokens of a text, a line for each.
-use super::shown::shown;
+use explain::shown;
 use std::io;
 use text::Reader;
 use text::Token;

@@ -1,21 +1,17 @@
 // The program `outline`: prints the tokens of `script.com`, or says in plain words why the text is refused and where.
 mod advice;
-mod explanation;
-mod lines;
 mod listing;
-mod position;
-mod shown;
 mod source;
 
 use advice::advice;
-use explanation::explanation;
+use explain::explanation;
 use listing::list_tokens;
 use source::read_script;
 use std::io;
 use text::Refused;
 use text::scan;
 
-fn explain(rt: &LibcRuntime, script: &[u8], refused: Refused) -> io::Result<()> {
+fn print_refusal(rt: &LibcRuntime, script: &[u8], refused: Refused) -> io::Result<()> {
     let number = refused.refusal.number();
     let words = advice(refused.refusal);
     rt.print(explanation(rt.alloc(), script, number, refused.place, words)?)
@@ -25,6 +21,6 @@ fn main(rt: LibcRuntime) -> io::Result<()> {
     let script = read_script(&rt)?;
     match scan(&script) {
         Ok(count) => list_tokens(&rt, &script, count),
-        Err(refused) => explain(&rt, &script, refused),
+        Err(refused) => print_refusal(&rt, &script, refused),
     }
 }

@@ -1,5 +1,0 @@
-use Rattle.outline.proofs.LineLaws.{lead-is}
-use Rattle.outline.proofs.lines.lead.Needs as need
-
-pub returns : need.returns
-returns c = lead-is (c .args .text .now) (c .args .place) _ _ (c .before-front .ensures .value) (c .since-newline .ensures .value)
