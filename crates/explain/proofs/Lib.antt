@@ -1,0 +1,3 @@
+pub mod LineLaws
+pub mod LeadLaws
+pub mod RowLaws
