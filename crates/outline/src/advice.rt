@@ -1,4 +1,4 @@
-// A sentence for each refusal of the text layer: what is wrong, and what to do.
+// A sentence for each refusal: what is wrong, and what to do.
 use text::Refusal;
 
 pub fn advice(refusal: Refusal) -> &'static str {
@@ -12,8 +12,14 @@ pub fn advice(refusal: Refusal) -> &'static str {
         Refusal::Bracket => {
             "A closing bracket is missing here, or this one does not match: give each ( its ) and each [ its ]."
         }
+        Refusal::Form => {
+            "Nothing of this kind can stand here: look at the word after the bracket, and at how many parts it has."
+        }
         Refusal::Limit => {
             "A limit is passed here: shorten the text to 65535 bytes, a name to 63, a symbol to 255 between its quotes, or open at most 64 brackets at a time."
+        }
+        Refusal::NodeList => {
+            "The host lends too few nodes for this script: ask for more, or shorten the script before this place."
         }
     }
 }
