@@ -1,1 +1,4 @@
 pub mod GrammarNesting
+pub mod GrammarOutcomes
+pub mod GrammarTypes
+pub mod GrammarExprs

@@ -1,0 +1,202 @@
+-- Expressions: reading makes what the grammar derives, and nothing else.
+use mathlib.Core.Path.{_≡_, refl, sym, ap, _∙_}
+use mathlib.Core.Bool.{Bool, true, false, cond}
+use mathlib.Core.List.{List, [], _∷_}
+use Prim.Native.Nat.{ℕ, zero, suc, _+_, _≤_, _<_, max}
+use native.Mathlib.Omega.{arith}
+use Rattle.std.specs.declared.option.Option.the-variants.{Some, None}
+use Rattle.text.specs.declared.bracket.Bracket.{Bracket}
+use Rattle.text.specs.declared.keyword.Keyword.{Keyword}
+use Rattle.text.specs.declared.keyword.Keyword.the-variants as keyword
+use Rattle.text.specs.declared.token.TokenKind.{TokenKind}
+use Rattle.text.specs.declared.token.TokenKind.the-variants as kind
+use Rattle.syntax.specs.Forms.{Two, two, not-two, twoOf, Form, if-form, begin-form, let-form, case-form, dup-form, apply-form, no-form, formOf}
+use Rattle.syntax.specs.Grammar.{NameOf, word, PatternOf, ExprOf, integer, symbol, true-literal, false-literal, unit-literal, name-expression, if-expression, begin-expression, let-expression, case-expression, dup-expression, apply-expression, ExprsOf, no-exprs, and-expr, BindingsOf, no-bindings, and-binding, BranchesOf, last-branch, and-branch}
+use Rattle.syntax.specs.Limits.{exprNodes, exprsNodes, bindingsNodes, branchesNodes}
+use Rattle.syntax.specs.Reading.{Tally, Outcome, refused, made, readName, readPattern, Branch, Binding, atomExpr, exprAtom, readExprs, bindingOf, readBinding, readBindings, readBindingList, branchOf, readBranch, readBranches, readForm, readExpr}
+use Rattle.syntax.specs.Sexps.{Sexp, atom, list, Sexps, nil, cons, depth, depths}
+use Rattle.syntax.specs.Trees as tree
+use Rattle.syntax.specs.Trees.{Ident, Pattern, Expr, Exprs, Bindings, Branches}
+use Rattle.syntax.proofs.GrammarOutcomes.{Read, Same, none, Used, used-none, nodes-then, Room, Fits, nodes-room, Holds, not-made, holds, holds-then, holds-so, Makes, makes, makes-then, holds-node, makes-node}
+use Rattle.syntax.proofs.GrammarTypes.{Listed, listed, name-sound, name-complete, pattern-sound, pattern-complete}
+
+-- what a list is, by its head and its number of parts
+data FormView : Sexps → Form → Type 0 where
+  is-if : {i : ℕ} {w : List ℕ} {a b c : Sexp} → FormView (cons (word keyword.If i w) (cons a (cons b (cons c nil)))) (if-form a b c)
+  is-begin : {i : ℕ} {w : List ℕ} {s : Sexp} {ss : Sexps} → FormView (cons (word keyword.Begin i w) (cons s ss)) (begin-form s ss)
+  is-let : {i : ℕ} {w : List ℕ} {a b : Sexp} → FormView (cons (word keyword.Let i w) (cons a (cons b nil))) (let-form a b)
+  is-case : {i : ℕ} {w : List ℕ} {s b : Sexp} {bs : Sexps} → FormView (cons (word keyword.Case i w) (cons s (cons b bs))) (case-form s b bs)
+  is-dup : {i : ℕ} {w : List ℕ} {s : Sexp} → FormView (cons (word keyword.Dup i w) (cons s nil)) (dup-form s)
+  is-apply : {s : Sexp} {ss : Sexps} → FormView (cons s ss) (apply-form s ss)
+  is-none : {ss : Sexps} → FormView ss no-form
+
+form-view : (ss : Sexps) → FormView ss (formOf ss)
+form-view nil = is-none
+form-view (cons (list a p ss q) es) = is-apply
+form-view (cons (atom kind.Name p w) es) = is-apply
+form-view (cons (atom (kind.Open b) p w) es) = is-apply
+form-view (cons (atom (kind.Close b) p w) es) = is-apply
+form-view (cons (atom kind.Symbol p w) es) = is-apply
+form-view (cons (atom (kind.Integer z) p w) es) = is-apply
+form-view (cons (atom (kind.Keyword k) p w) es) = go k es
+  where
+    go : (k : Keyword) (es : Sexps) → FormView (cons (word k p w) es) (formOf (cons (word k p w) es))
+    go keyword.If nil = is-none
+    go keyword.If (cons a nil) = is-none
+    go keyword.If (cons a (cons b nil)) = is-none
+    go keyword.If (cons a (cons b (cons c nil))) = is-if
+    go keyword.If (cons a (cons b (cons c (cons d rest)))) = is-none
+    go keyword.Begin nil = is-none
+    go keyword.Begin (cons a rest) = is-begin
+    go keyword.Let nil = is-none
+    go keyword.Let (cons a nil) = is-none
+    go keyword.Let (cons a (cons b nil)) = is-let
+    go keyword.Let (cons a (cons b (cons c rest))) = is-none
+    go keyword.Case nil = is-none
+    go keyword.Case (cons a nil) = is-none
+    go keyword.Case (cons a (cons b rest)) = is-case
+    go keyword.Dup nil = is-none
+    go keyword.Dup (cons a nil) = is-dup
+    go keyword.Dup (cons a (cons b rest)) = is-none
+    go keyword.Unit es = is-apply
+    go keyword.True es = is-apply
+    go keyword.False es = is-apply
+    go keyword.Colon es = is-none
+    go keyword.Val es = is-none
+    go keyword.Define es = is-none
+    go keyword.Datatype es = is-none
+    go keyword.Use es = is-none
+    go keyword.Arrow es = is-none
+    go keyword.Int es = is-none
+    go keyword.Bool es = is-none
+    go keyword.Sym es = is-none
+    go keyword.Wildcard es = is-none
+
+data TwoView : Sexps → Two → Type 0 where
+  is-two : {a b : Sexp} → TwoView (cons a (cons b nil)) (two a b)
+  other : {ss : Sexps} → TwoView ss not-two
+
+two-view : (ss : Sexps) → TwoView ss (twoOf ss)
+two-view nil = other
+two-view (cons a nil) = other
+two-view (cons a (cons b nil)) = is-two
+two-view (cons a (cons b (cons c rest))) = other
+
+-- one binding and one branch
+data BindingOf : Sexp → Binding → Type 0 where
+  binding : {a : Bracket} {p q : ℕ} {s₁ s₂ : Sexp} {b : Binding} → b .place ≡ p → NameOf s₁ (b .name) → ExprOf s₂ (b .expr) → BindingOf (list a p (cons s₁ (cons s₂ nil)) q) b
+
+data BranchOf : Sexp → Branch → Type 0 where
+  branch : {a : Bracket} {p q : ℕ} {s₁ s₂ : Sexp} {b : Branch} → b .place ≡ p → PatternOf s₁ (b .pattern) → ExprOf s₂ (b .expr) → BranchOf (list a p (cons s₁ (cons s₂ nil)) q) b
+
+made-binding : {s : Sexp} {ss : Sexps} {b : Binding} {bs : Bindings} → BindingOf s b → BindingsOf ss bs → BindingsOf (cons s ss) (tree.and-binding (b .place) (b .name) (b .expr) bs)
+made-binding (binding e x d) more = rw e (and-binding x d more)
+
+made-branch : {s : Sexp} {ss : Sexps} {b : Branch} {bs : Branches} → BranchOf s b → BranchesOf ss bs → BranchesOf (cons s ss) (tree.and-branch (b .place) (b .pattern) (b .expr) bs)
+made-branch (branch e x d) more = rw e (and-branch x d more)
+
+made-last : {s : Sexp} {b : Branch} → BranchOf s b → BranchesOf (cons s nil) (tree.last-branch (b .place) (b .pattern) (b .expr))
+made-last (branch e x d) = rw e (last-branch x d)
+
+made-let : {a : Bracket} {p q i : ℕ} {w : List ℕ} {s r : Sexp} {bs : Bindings} {e : Expr} → Listed (λ ss. BindingsOf ss bs) s → ExprOf r e
+  → ExprOf (list a p (cons (word keyword.Let i w) (cons s (cons r nil))) q) (tree.let-expr p bs e)
+made-let (listed h) k = let-expression h k
+
+module _ (entries : ℕ) where
+  one-node : (s : Sexp) (e : Expr) (p : ℕ) (n : Tally) → Fits entries n → ExprOf s e → exprNodes e ≡ 1 → Holds (Read (ExprOf s) exprNodes none entries n) (exprAtom entries p (Some e) n)
+  one-node s e p n f d c = holds-node entries p n f (λ m u g. holds record { derived = d; used = rw c u; fits = g })
+
+  atom-sound : (k : TokenKind) (p : ℕ) (w : List ℕ) (n : Tally) → Fits entries n → Holds (Read (ExprOf (atom k p w)) exprNodes none entries n) (exprAtom entries p (atomExpr entries k p w) n)
+  atom-sound kind.Name p w n f = one-node _ _ p n f name-expression refl
+  atom-sound (kind.Open b) p w n f = not-made
+  atom-sound (kind.Close b) p w n f = not-made
+  atom-sound kind.Symbol p w n f = one-node _ _ p n f (symbol refl) refl
+  atom-sound (kind.Integer z) p w n f = one-node _ _ p n f integer refl
+  atom-sound (kind.Keyword k) p w n f = go k
+    where
+      go : (k : Keyword) → Holds (Read (ExprOf (word k p w)) exprNodes none entries n) (exprAtom entries p (atomExpr entries (kind.Keyword k) p w) n)
+      go keyword.True = one-node _ _ p n f true-literal refl
+      go keyword.False = one-node _ _ p n f false-literal refl
+      go keyword.Unit = one-node _ _ p n f unit-literal refl
+      go keyword.Colon = not-made
+      go keyword.Val = not-made
+      go keyword.Define = not-made
+      go keyword.Datatype = not-made
+      go keyword.Use = not-made
+      go keyword.If = not-made
+      go keyword.Case = not-made
+      go keyword.Begin = not-made
+      go keyword.Let = not-made
+      go keyword.Dup = not-made
+      go keyword.Arrow = not-made
+      go keyword.Int = not-made
+      go keyword.Bool = not-made
+      go keyword.Sym = not-made
+      go keyword.Wildcard = not-made
+
+  module _ (read : Sexp → Tally → Outcome Expr) (sound : (s : Sexp) (n : Tally) → Fits entries n → Holds (Read (ExprOf s) exprNodes none entries n) (read s n)) where
+    exprs-sound : (ss : Sexps) (n : Tally) → Fits entries n → Holds (Read (ExprsOf ss) exprsNodes none entries n) (readExprs entries read ss n)
+    exprs-sound nil n f = holds record { derived = no-exprs; used = used-none; fits = f }
+    exprs-sound (cons s ss) n f = holds-then (sound s n f) (λ e m a. holds-then (exprs-sound ss m (a .fits)) (λ es o b.
+        holds record { derived = and-expr (a .derived) (b .derived); used = nodes-then (a .used) (b .used); fits = b .fits }))
+
+    binding-sound : (s : Sexp) (n : Tally) → Fits entries n → Holds (Read (BindingOf s) (λ b. 1 + exprNodes (b .expr)) none entries n) (readBinding entries read s n)
+    binding-sound (atom k p w) n f = not-made
+    binding-sound (list a p ss q) n f = go (two-view ss)
+      where
+        go : {ss : Sexps} {v : Two} → TwoView ss v → Holds (Read (BindingOf (list a p ss q)) (λ b. 1 + exprNodes (b .expr)) none entries n) (bindingOf entries read p v n)
+        go other = not-made
+        go (is-two {a = x} {b = s}) =
+            holds-node entries p n f (λ m u g. holds-then (name-sound entries x m g) (λ i m₁ h. holds-then (sound s m₁ (h .fits)) (λ e m₂ k.
+              holds record { derived = binding refl (h .derived) (k .derived); used = nodes-then (nodes-then u (h .used)) (k .used); fits = k .fits })))
+
+    bindings-sound : (ss : Sexps) (n : Tally) → Fits entries n → Holds (Read (BindingsOf ss) bindingsNodes none entries n) (readBindings entries read ss n)
+    bindings-sound nil n f = holds record { derived = no-bindings; used = used-none; fits = f }
+    bindings-sound (cons s ss) n f = holds-then (binding-sound s n f) (λ b m h. holds-then (bindings-sound ss m (h .fits)) (λ bs o k.
+        holds record { derived = made-binding (h .derived) (k .derived); used = nodes-then (h .used) (k .used); fits = k .fits }))
+
+    binding-list-sound : (s : Sexp) (n : Tally) → Fits entries n → Holds (Read (λ bs. Listed (λ ss. BindingsOf ss bs) s) bindingsNodes none entries n) (readBindingList entries read s n)
+    binding-list-sound (atom k p w) n f = not-made
+    binding-list-sound (list a p ss q) n f = holds-so (bindings-sound ss n f) (λ bs m h. record { derived = listed (h .derived); used = h .used; fits = h .fits })
+
+    branch-sound : (s : Sexp) (n : Tally) → Fits entries n → Holds (Read (BranchOf s) (λ b. 1 + exprNodes (b .expr)) none entries n) (readBranch entries read s n)
+    branch-sound (atom k p w) n f = not-made
+    branch-sound (list a p ss q) n f = go (two-view ss)
+      where
+        go : {ss : Sexps} {v : Two} → TwoView ss v → Holds (Read (BranchOf (list a p ss q)) (λ b. 1 + exprNodes (b .expr)) none entries n) (branchOf entries read p v n)
+        go other = not-made
+        go (is-two {a = x} {b = s}) =
+            holds-node entries p n f (λ m u g. holds-then (pattern-sound entries x m g) (λ i m₁ h. holds-then (sound s m₁ (h .fits)) (λ e m₂ k.
+              holds record { derived = branch refl (h .derived) (k .derived); used = nodes-then (nodes-then u (h .used)) (k .used); fits = k .fits })))
+
+    branches-sound : (s : Sexp) (ss : Sexps) (n : Tally) → Fits entries n → Holds (Read (BranchesOf (cons s ss)) branchesNodes none entries n) (readBranches entries read s ss n)
+    branches-sound s nil n f = holds-then (branch-sound s n f) (λ b m h. holds record { derived = made-last (h .derived); used = h .used; fits = h .fits })
+    branches-sound s (cons t ss) n f = holds-then (branch-sound s n f) (λ b m h. holds-then (branches-sound t ss m (h .fits)) (λ bs o k.
+        holds record { derived = made-branch (h .derived) (k .derived); used = nodes-then (h .used) (k .used); fits = k .fits }))
+
+    form-sound : {ss : Sexps} {v : Form} (a : Bracket) (p q : ℕ) (n : Tally) → FormView ss v → Fits entries n → Holds (Read (ExprOf (list a p ss q)) exprNodes none entries n) (readForm entries read p v n)
+    form-sound a p q n is-none f = not-made
+    form-sound a p q n (is-if {a = s} {b = t} {c = r}) f =
+        holds-node entries p n f (λ m u g. holds-then (sound s m g) (λ e m₁ x. holds-then (sound t m₁ (x .fits)) (λ e′ m₂ y. holds-then (sound r m₂ (y .fits)) (λ e″ m₃ z.
+          holds record { derived = if-expression (x .derived) (y .derived) (z .derived); used = nodes-then (nodes-then (nodes-then u (x .used)) (y .used)) (z .used); fits = z .fits }))))
+    form-sound a p q n (is-begin {s = s} {ss = ss}) f =
+        holds-node entries p n f (λ m u g. holds-then (sound s m g) (λ e m₁ x. holds-then (exprs-sound ss m₁ (x .fits)) (λ es m₂ y.
+          holds record { derived = begin-expression (x .derived) (y .derived); used = nodes-then (nodes-then u (x .used)) (y .used); fits = y .fits })))
+    form-sound a p q n (is-let {a = s} {b = t}) f =
+        holds-node entries p n f (λ m u g. holds-then (binding-list-sound s m g) (λ bs m₁ x. holds-then (sound t m₁ (x .fits)) (λ e m₂ y.
+          holds record { derived = made-let (x .derived) (y .derived); used = nodes-then (nodes-then u (x .used)) (y .used); fits = y .fits })))
+    form-sound a p q n (is-case {s = s} {b = b} {bs = bs}) f =
+        holds-node entries p n f (λ m u g. holds-then (sound s m g) (λ e m₁ x. holds-then (branches-sound b bs m₁ (x .fits)) (λ xs m₂ y.
+          holds record { derived = case-expression (x .derived) (y .derived); used = nodes-then (nodes-then u (x .used)) (y .used); fits = y .fits })))
+    form-sound a p q n (is-dup {s = s}) f =
+        holds-node entries p n f (λ m u g. holds-then (name-sound entries s m g) (λ i m₁ x.
+          holds record { derived = dup-expression (x .derived); used = nodes-then u (x .used); fits = x .fits }))
+    form-sound a p q n (is-apply {s = s} {ss = ss}) f =
+        holds-node entries p n f (λ m u g. holds-then (sound s m g) (λ e m₁ x. holds-then (exprs-sound ss m₁ (x .fits)) (λ es m₂ y.
+          holds record { derived = apply-expression (x .derived) (y .derived); used = nodes-then (nodes-then u (x .used)) (y .used); fits = y .fits })))
+
+  pub expr-sound : (d : ℕ) (s : Sexp) (n : Tally) → Fits entries n → Holds (Read (ExprOf s) exprNodes none entries n) (readExpr entries d s n)
+  expr-sound zero (atom k p w) n f = atom-sound k p w n f
+  expr-sound (suc d) (atom k p w) n f = atom-sound k p w n f
+  expr-sound zero (list a p ss q) n f = not-made
+  expr-sound (suc d) (list a p ss q) n f = form-sound (readExpr entries d) (expr-sound d) a p q n (form-view ss) f
