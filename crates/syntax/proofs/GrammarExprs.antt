@@ -200,3 +200,118 @@ module _ (entries : ℕ) where
   expr-sound (suc d) (atom k p w) n f = atom-sound k p w n f
   expr-sound zero (list a p ss q) n f = not-made
   expr-sound (suc d) (list a p ss q) n f = form-sound (readExpr entries d) (expr-sound d) a p q n (form-view ss) f
+
+-- an expression that the grammar derives heads an application
+applies : {s : Sexp} {e : Expr} (ss : Sexps) → ExprOf s e → formOf (cons s ss) ≡ apply-form s ss
+applies ss integer = refl
+applies ss (symbol q) = refl
+applies ss true-literal = refl
+applies ss false-literal = refl
+applies ss unit-literal = refl
+applies ss name-expression = refl
+applies ss (if-expression a b c) = refl
+applies ss (begin-expression a b) = refl
+applies ss (let-expression a b) = refl
+applies ss (case-expression a b) = refl
+applies ss (dup-expression a) = refl
+applies ss (apply-expression a b) = refl
+
+-- an expression that the grammar derives is read
+module _ (entries : ℕ) where
+  made-one : (e : Expr) (p : ℕ) (n : Tally) → Room entries n 1 0 0 0 0 → Makes (Same e 1 0 n) (exprAtom entries p (Some e) n)
+  made-one e p n r = makes-node entries p n r (λ m u. makes record { same = refl; used = u })
+
+  -- one binding, one branch
+  record SameBinding (p : ℕ) (x : Ident) (e : Expr) (n : Tally) (b : Binding) (m : Tally) : Type 0 where
+    same-place : b .place ≡ p
+    same-name : b .name ≡ x
+    same-expr : b .expr ≡ e
+    used : Used n m (1 + exprNodes e) 0 0 0 0
+
+  record SameBranch (p : ℕ) (x : Pattern) (e : Expr) (n : Tally) (b : Branch) (m : Tally) : Type 0 where
+    same-place : b .place ≡ p
+    same-pattern : b .pattern ≡ x
+    same-expr : b .expr ≡ e
+    used : Used n m (1 + exprNodes e) 0 0 0 0
+
+  mutual
+    pub expr-complete : {s : Sexp} {e : Expr} → ExprOf s e → (d : ℕ) → depth s ≤ d → (n : Tally) → Room entries n (exprNodes e) 0 0 0 0 → Makes (Same e (exprNodes e) 0 n) (readExpr entries d s n)
+    expr-complete (integer {p = p}) d le n r = made-one _ p n r
+    expr-complete (symbol {p = p} {w = w} q) d le n r = rw q (made-one _ p n r)
+    expr-complete (true-literal {p = p}) d le n r = made-one _ p n r
+    expr-complete (false-literal {p = p}) d le n r = made-one _ p n r
+    expr-complete (unit-literal {p = p}) d le n r = made-one _ p n r
+    expr-complete (name-expression {p = p}) d le n r = made-one _ p n r
+    expr-complete (if-expression a b c) zero le n r = absurd (omega arith)
+    expr-complete (if-expression {p = p} {s₁ = s} {s₂ = t} {s₃ = v} a b c) (suc d) le n r =
+        makes-node entries p n (nodes-room used-none r (omega arith)) (λ m u.
+        makes-then (expr-complete a d (omega arith) m (nodes-room u r (omega arith))) (λ e m₁ x.
+        makes-then (expr-complete b d (omega arith) m₁ (nodes-room (nodes-then u (x .used)) r (omega arith))) (λ e′ m₂ y.
+        makes-then (expr-complete c d (omega arith) m₂ (nodes-room (nodes-then (nodes-then u (x .used)) (y .used)) r (omega arith))) (λ e″ m₃ z.
+        makes {x = tree.if-expr p e e′ e″} record { same = cc (x .same, y .same, z .same); used = nodes-then (nodes-then (nodes-then u (x .used)) (y .used)) (z .used) }))))
+    expr-complete (begin-expression a b) zero le n r = absurd (omega arith)
+    expr-complete (begin-expression {p = p} {s = s} {ss = ss} a b) (suc d) le n r =
+        makes-node entries p n (nodes-room used-none r (omega arith)) (λ m u.
+        makes-then (expr-complete a d (omega arith) m (nodes-room u r (omega arith))) (λ e m₁ x.
+        makes-then (exprs-complete b d (omega arith) m₁ (nodes-room (nodes-then u (x .used)) r (omega arith))) (λ es m₂ y.
+        makes {x = tree.begin-expr p e es} record { same = cc (x .same, y .same); used = nodes-then (nodes-then u (x .used)) (y .used) })))
+    expr-complete (let-expression a b) zero le n r = absurd (omega arith)
+    expr-complete (let-expression {p = p} {ss = ss} {s = s} a b) (suc d) le n r =
+        makes-node entries p n (nodes-room used-none r (omega arith)) (λ m u.
+        makes-then (bindings-complete a d (omega arith) m (nodes-room u r (omega arith))) (λ bs m₁ x.
+        makes-then (expr-complete b d (omega arith) m₁ (nodes-room (nodes-then u (x .used)) r (omega arith))) (λ e m₂ y.
+        makes {x = tree.let-expr p bs e} record { same = cc (x .same, y .same); used = nodes-then (nodes-then u (x .used)) (y .used) })))
+    expr-complete (case-expression a b) zero le n r = absurd (omega arith)
+    expr-complete (case-expression {ss = nil} a b) (suc d) le n r = elim b [ ]
+    expr-complete (case-expression {p = p} {s = s} {ss = cons t ss} a b) (suc d) le n r =
+        makes-node entries p n (nodes-room used-none r (omega arith)) (λ m u.
+        makes-then (expr-complete a d (omega arith) m (nodes-room u r (omega arith))) (λ e m₁ x.
+        makes-then (branches-complete b d (omega arith) m₁ (nodes-room (nodes-then u (x .used)) r (omega arith))) (λ bs m₂ y.
+        makes {x = tree.case-expr p e bs} record { same = cc (x .same, y .same); used = nodes-then (nodes-then u (x .used)) (y .used) })))
+    expr-complete (dup-expression a) zero le n r = absurd (omega arith)
+    expr-complete (dup-expression {p = p} a) (suc d) le n r =
+        makes-node entries p n r (λ m u.
+        makes-then (name-complete m a) (λ i m₁ x.
+        makes {x = tree.dup-expr p i} record { same = cc (x .same); used = nodes-then u (x .used) }))
+    expr-complete (apply-expression a b) zero le n r = absurd (omega arith)
+    expr-complete (apply-expression {p = p} {s = s} {ss = ss} a b) (suc d) le n r = rw (applies ss a)
+        (makes-node entries p n (nodes-room used-none r (omega arith)) (λ m u.
+        makes-then (expr-complete a d (omega arith) m (nodes-room u r (omega arith))) (λ e m₁ x.
+        makes-then (exprs-complete b d (omega arith) m₁ (nodes-room (nodes-then u (x .used)) r (omega arith))) (λ es m₂ y.
+        makes {x = tree.apply-expr p e es} record { same = cc (x .same, y .same); used = nodes-then (nodes-then u (x .used)) (y .used) }))))
+
+    exprs-complete : {ss : Sexps} {es : Exprs} → ExprsOf ss es → (d : ℕ) → depths ss ≤ d → (n : Tally) → Room entries n (exprsNodes es) 0 0 0 0 → Makes (Same es (exprsNodes es) 0 n) (readExprs entries (readExpr entries d) ss n)
+    exprs-complete no-exprs d le n r = makes record { same = refl; used = used-none }
+    exprs-complete (and-expr {s = s} {ss = ss} a more) d le n r =
+        makes-then (expr-complete a d (omega arith) n (nodes-room used-none r (omega arith))) (λ e m x.
+        makes-then (exprs-complete more d (omega arith) m (nodes-room (x .used) r (omega arith))) (λ es m₁ y.
+        makes {x = tree.and-expr e es} record { same = cc (x .same, y .same); used = nodes-then (x .used) (y .used) }))
+
+    bindings-complete : {ss : Sexps} {bs : Bindings} → BindingsOf ss bs → (d : ℕ) → depths ss ≤ d → (n : Tally) → Room entries n (bindingsNodes bs) 0 0 0 0 → Makes (Same bs (bindingsNodes bs) 0 n) (readBindings entries (readExpr entries d) ss n)
+    bindings-complete no-bindings d le n r = makes record { same = refl; used = used-none }
+    bindings-complete (and-binding {p = p} {s₁ = s₁} {s₂ = s₂} {ss = ss} {x = x} {e = e} c a more) d le n r =
+        makes-then {Q = SameBinding p x e n}
+          (makes-node entries p n (nodes-room used-none r (omega arith)) (λ m u.
+           makes-then (name-complete m c) (λ i m₁ y.
+           makes-then (expr-complete a d (omega arith) m₁ (nodes-room (nodes-then u (y .used)) r (omega arith))) (λ e m₂ z.
+           makes record { same-place = refl; same-name = y .same; same-expr = z .same; used = nodes-then (nodes-then u (y .used)) (z .used) }))))
+          (λ b m y. makes-then (bindings-complete more d (omega arith) m (nodes-room (y .used) r (omega arith))) (λ bs m₁ z.
+           makes {x = tree.and-binding (b .place) (b .name) (b .expr) bs} record { same = cc (y .same-place, y .same-name, y .same-expr, z .same); used = nodes-then (y .used) (z .used) }))
+
+    branches-complete : {s : Sexp} {ss : Sexps} {bs : Branches} → BranchesOf (cons s ss) bs → (d : ℕ) → depths (cons s ss) ≤ d → (n : Tally) → Room entries n (branchesNodes bs) 0 0 0 0 → Makes (Same bs (branchesNodes bs) 0 n) (readBranches entries (readExpr entries d) s ss n)
+    branches-complete (last-branch {p = p} {s₁ = s₁} {s₂ = s₂} {x = x} {e = e} c a) d le n r =
+        makes-then {Q = SameBranch p x e n}
+          (makes-node entries p n (nodes-room used-none r (omega arith)) (λ m u.
+           makes-then (pattern-complete m c) (λ i m₁ y.
+           makes-then (expr-complete a d (omega arith) m₁ (nodes-room (nodes-then u (y .used)) r (omega arith))) (λ e m₂ z.
+           makes record { same-place = refl; same-pattern = y .same; same-expr = z .same; used = nodes-then (nodes-then u (y .used)) (z .used) }))))
+          (λ b m y. makes {x = tree.last-branch (b .place) (b .pattern) (b .expr)} record { same = cc (y .same-place, y .same-pattern, y .same-expr); used = y .used })
+    branches-complete (and-branch {ss = nil} c a more) d le n r = elim more [ ]
+    branches-complete (and-branch {p = p} {s₁ = s₁} {s₂ = s₂} {ss = cons t ss} {x = x} {e = e} c a more) d le n r =
+        makes-then {Q = SameBranch p x e n}
+          (makes-node entries p n (nodes-room used-none r (omega arith)) (λ m u.
+           makes-then (pattern-complete m c) (λ i m₁ y.
+           makes-then (expr-complete a d (omega arith) m₁ (nodes-room (nodes-then u (y .used)) r (omega arith))) (λ e m₂ z.
+           makes record { same-place = refl; same-pattern = y .same; same-expr = z .same; used = nodes-then (nodes-then u (y .used)) (z .used) }))))
+          (λ b m y. makes-then (branches-complete more d (omega arith) m (nodes-room (y .used) r (omega arith))) (λ bs m₁ z.
+           makes {x = tree.and-branch (b .place) (b .pattern) (b .expr) bs} record { same = cc (y .same-place, y .same-pattern, y .same-expr, z .same); used = nodes-then (y .used) (z .used) }))
