@@ -18,7 +18,7 @@ use Rattle.syntax.specs.Sexps.{Sexp, atom, list, Sexps, nil, cons, depth, dept
 use Rattle.syntax.specs.Trees as tree
 use Rattle.syntax.specs.Trees.{Ident, Pattern, Expr, Exprs, Bindings, Branches}
 use Rattle.syntax.proofs.GrammarOutcomes.{Read, Same, none, Used, used-none, nodes-then, Room, Fits, nodes-room, Holds, not-made, holds, holds-then, holds-so, Makes, makes, makes-then, holds-node, makes-node}
-use Rattle.syntax.proofs.GrammarTypes.{Listed, listed, name-sound, name-complete, pattern-sound, pattern-complete}
+use Rattle.syntax.proofs.GrammarTypes.{Listed, listed, TwoView, is-two, other, two-view, name-sound, name-complete, pattern-sound, pattern-complete}
 
 -- what a list is, by its head and its number of parts
 data FormView : Sexps → Form → Type 0 where
@@ -71,16 +71,6 @@ form-view (cons (atom (kind.Keyword k) p w) es) = go k es
     go keyword.Bool es = is-none
     go keyword.Sym es = is-none
     go keyword.Wildcard es = is-none
-
-data TwoView : Sexps → Two → Type 0 where
-  is-two : {a b : Sexp} → TwoView (cons a (cons b nil)) (two a b)
-  other : {ss : Sexps} → TwoView ss not-two
-
-two-view : (ss : Sexps) → TwoView ss (twoOf ss)
-two-view nil = other
-two-view (cons a nil) = other
-two-view (cons a (cons b nil)) = is-two
-two-view (cons a (cons b (cons c rest))) = other
 
 -- one binding and one branch
 data BindingOf : Sexp → Binding → Type 0 where

@@ -13,7 +13,7 @@ use Rattle.text.specs.declared.keyword.Keyword.{Keyword}
 use Rattle.text.specs.declared.keyword.Keyword.the-variants as keyword
 use Rattle.text.specs.declared.token.TokenKind.{TokenKind}
 use Rattle.text.specs.declared.token.TokenKind.the-variants as kind
-use Rattle.syntax.specs.Forms.{Two, two, not-two, arrowOf}
+use Rattle.syntax.specs.Forms.{Two, two, not-two, twoOf, arrowOf}
 use Rattle.syntax.specs.Grammar.{NameOf, word, TypeOf, int-type, bool-type, sym-type, unit-type, datatype, function-type, TypesOf, no-types, and-type, PartOf, bound, skipped, PartsOf, no-parts, and-part, PatternOf, wildcard, constructor}
 use Rattle.syntax.specs.Limits.{typeCount, typesCount, typesLength, SixInType, SixInTypes}
 use Rattle.syntax.specs.Reading.{Tally, Outcome, refused, made, ident, nameOf, readName, atomType, typeAtom, typeShaped, readTypes, readTypeList, readArrow, readType, readPart, readParts, readConstructorPattern, readPattern, wrong, overLimit, andThen}
@@ -28,6 +28,17 @@ clash z = omega arith
 -- what stands in brackets of either shape
 pub data Listed (P : Sexps → Type 0) : Sexp → Type 0 where
   listed : {a : Bracket} {p q : ℕ} {ss : Sexps} → P ss → Listed P (list a p ss q)
+
+-- exactly two parts
+pub data TwoView : Sexps → Two → Type 0 where
+  is-two : {a b : Sexp} → TwoView (cons a (cons b nil)) (two a b)
+  other : {ss : Sexps} → TwoView ss not-two
+
+pub two-view : (ss : Sexps) → TwoView ss (twoOf ss)
+two-view nil = other
+two-view (cons a nil) = other
+two-view (cons a (cons b nil)) = is-two
+two-view (cons a (cons b (cons c rest))) = other
 
 -- Names.
 pub name-sound : (entries : ℕ) (s : Sexp) (n : Tally) → Fits entries n → Holds (Read (NameOf s) none none entries n) (readName s n)

@@ -2,3 +2,4 @@ pub mod GrammarNesting
 pub mod GrammarOutcomes
 pub mod GrammarTypes
 pub mod GrammarExprs
+pub mod GrammarDefinitions
