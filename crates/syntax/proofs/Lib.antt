@@ -3,3 +3,4 @@ pub mod GrammarOutcomes
 pub mod GrammarTypes
 pub mod GrammarExprs
 pub mod GrammarDefinitions
+pub mod GrammarScan
