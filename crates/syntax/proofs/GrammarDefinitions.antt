@@ -178,7 +178,7 @@ record Again {X : Type 0} (x : X) (nodes types bindings datatypes constructors :
 abbrev constructorAt : ℕ → Ident → TypeExprs → Constructor
 constructorAt p x ts = record { place = p; name = x; fields = ts }
 
-one-constructor : (b c : Constructor) → b .place ≡ c .place → b .name ≡ c .name → b .fields ≡ c .fields → b ≡ c
+pub one-constructor : (b c : Constructor) → b .place ≡ c .place → b .name ≡ c .name → b .fields ≡ c .fields → b ≡ c
 one-constructor b c p q r = ap (λ x. constructorAt x (b .name) (b .fields)) p ∙ ap (λ x. constructorAt (c .place) x (b .fields)) q ∙ ap (constructorAt (c .place) (c .name)) r
 
 -- a definition that the grammar derives is read

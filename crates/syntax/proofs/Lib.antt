@@ -4,3 +4,5 @@ pub mod GrammarTypes
 pub mod GrammarExprs
 pub mod GrammarDefinitions
 pub mod GrammarScan
+pub mod GrammarOnly
+pub mod GrammarLaws
