@@ -1,1 +1,2 @@
 // The syntax layer: tokens as forms.
+pub mod laws;
