@@ -1,17 +1,21 @@
 -- Reading answers a script exactly when the grammar derives it and it passes no limit.
 use mathlib.Core.Path.{_≡_, refl, sym, ap, subst, _∙_}
-use mathlib.Core.List.{List}
-use Prim.Native.Nat.{ℕ, _≤_}
+use mathlib.Core.List.{List, [], _∷_, _++_}
+use Prim.Native.Nat.{ℕ, _-_, _≤_}
 use native.Mathlib.Omega.{arith}
+use lib.ListN.{length, take, drop}
+use Rattle.std.proofs.shelf.Lists.{length-append, take-at}
 use Rattle.std.specs.declared.result.Result.{Result}
 use Rattle.std.specs.declared.result.Result.the-variants.{Ok, Err}
+use Rattle.text.specs.Grammar.{Spelt}
 use Rattle.text.specs.Scans.{scan}
 use Rattle.text.specs.Tokens.{Lexeme}
 use Rattle.text.specs.declared.refusal.Refused.{Refused}
+use Rattle.text.specs.declared.token.TokenKind.the-variants.{Symbol}
 use Rattle.syntax.specs.Grammar.{Nested, ScriptOf, Derives}
-use Rattle.syntax.specs.Laws.{Nests, Reads}
+use Rattle.syntax.specs.Laws.{Nests, Quotes, Reads}
 use Rattle.syntax.specs.Limits.{Within}
-use Rattle.syntax.specs.Reading.{Tally, Outcome, refused, made, readDefinitions, fresh, concluded, onTokens, reading}
+use Rattle.syntax.specs.Reading.{Tally, Outcome, refused, made, readDefinitions, fresh, concluded, onTokens, unquoted, reading}
 use Rattle.syntax.specs.Sexps.{Sexps, depths, nested}
 use Rattle.syntax.specs.Trees.{Script}
 use Rattle.syntax.proofs.GrammarDefinitions.{ScriptRead, script-sound, script-complete}
@@ -68,6 +72,15 @@ one-script text a b d e =
     let tokens : d .tokens ≡ e .tokens = let p = tokens-scan text (d .tokens) (d .lexical) in let q = tokens-scan text (e .tokens) (e .lexical) in cc in
     let forms : d .forms ≡ e .forms = nested-only (d .tokens) (d .forms) (d .nested) ∙ ap nested tokens ∙ sym (nested-only (e .tokens) (e .forms) (e .nested)) in
     script-only (subst (λ ss. ScriptOf ss a) forms (d .grammatical)) (e .grammatical)
+
+quoted : (w : List ℕ) → Spelt Symbol w → w ≡ 39 ∷ (unquoted w ++ 39 ∷ [])
+quoted w (s, e, q, few) =
+    let size : length w - 2 ≡ length s = omega (arith, ap length e, length-append s (39 ∷ [])) in
+    let inner : unquoted w ≡ s = ap (λ n. take n (drop 1 w)) size ∙ ap (λ w. take (length s) (drop 1 w)) e ∙ take-at s (39 ∷ []) (length s) refl in
+    e ∙ ap (λ s. 39 ∷ (s ++ 39 ∷ [])) (sym inner)
+
+pub quotes : Quotes
+quotes = record { between = quoted }
 
 pub nests : Nests
 nests = record { stands = nested-stands; only = nested-only; shallow = nested-shallow }
