@@ -1,8 +1,8 @@
 -- Definitions: reading makes what the grammar derives, and nothing else.
 use mathlib.Core.Path.{_≡_, refl, sym, ap, _∙_}
 use mathlib.Core.Bool.{Bool, true, false, cond}
-use mathlib.Core.List.{List, [], _∷_}
-use Prim.Native.Nat.{ℕ, zero, suc, _+_, _≤_, _<_, max}
+use mathlib.Core.List.{List, _∷_}
+use Prim.Native.Nat.{ℕ, _+_, _≤_}
 use native.Mathlib.Omega.{arith}
 use borrow.Author.Tests.{lt-ltb, ltb-true}
 use lib.Dec.{ltb}
@@ -11,14 +11,14 @@ use Rattle.text.specs.declared.bracket.Bracket.{Bracket}
 use Rattle.text.specs.declared.keyword.Keyword.{Keyword}
 use Rattle.text.specs.declared.keyword.Keyword.the-variants as keyword
 use Rattle.text.specs.declared.token.TokenKind.the-variants as kind
-use Rattle.syntax.specs.Forms.{Two, two, not-two, twoOf, DefinitionForm, datatype-form, annotation-form, define-form, val-form, no-definition, definitionOf}
+use Rattle.syntax.specs.Forms.{Two, DefinitionForm, datatype-form, annotation-form, define-form, val-form, no-definition, definitionOf}
 use Rattle.syntax.specs.Grammar.{NameOf, word, TypesOf, ExprOf, ConstructorOf, constructor-definition, ConstructorsOf, no-constructors, and-constructor, NamesOf, no-names, and-name, DefinitionOf, datatype-definition, type-annotation, function-definition, val-binding, ScriptOf, no-definitions, and-definition}
-use Rattle.syntax.specs.Limits.{exprNodes, typeCount, typesCount, typesLength, fieldsCount, nodesOf, typesOf, bindingsOf, datatypesOf, constructorsOf, total, SixInTypes, SixInConstructors, SixInDefinition, SixInScript}
-use Rattle.syntax.specs.Reading.{Tally, Outcome, refused, made, andThen, overLimit, constructorOf, readConstructor, readConstructors, readConstructorList, readParameters, readParameterList, readType, readExpr, readDefinitionForm, readDefinition, readDefinitions}
+use Rattle.syntax.specs.Limits.{typesCount, typesLength, fieldsCount, nodesOf, typesOf, bindingsOf, datatypesOf, constructorsOf, total, SixInTypes, SixInConstructors, SixInDefinition, SixInScript}
+use Rattle.syntax.specs.Reading.{Tally, made, andThen, overLimit, constructorOf, readConstructor, readConstructors, readConstructorList, readParameters, readParameterList, readType, readDefinitionForm, readDefinition, readDefinitions}
 use Rattle.syntax.specs.Sexps.{Sexp, atom, list, Sexps, nil, cons, place, depth, depths}
 use Rattle.syntax.specs.Trees as tree
 use Rattle.syntax.specs.Trees.{Ident, TypeExprs, Expr, Constructor, Definition, Script}
-use Rattle.syntax.proofs.GrammarOutcomes.{Read, Same, none, Used, used-none, used-then, used-same, Room, Fits, room, Holds, not-made, holds, holds-then, holds-so, Makes, makes, makes-then, holds-binding, makes-binding, holds-datatype, makes-datatype, holds-constructor, makes-constructor}
+use Rattle.syntax.proofs.GrammarOutcomes.{Read, none, Used, used-none, used-then, used-same, Room, Fits, room, Holds, not-made, holds, holds-then, holds-so, Makes, makes, makes-then, holds-binding, makes-binding, holds-datatype, makes-datatype, holds-constructor, makes-constructor}
 use Rattle.syntax.proofs.GrammarTypes.{Listed, listed, TwoView, is-two, other, two-view, name-sound, name-complete, type-sound, type-complete, type-list-sound, types-complete}
 use Rattle.syntax.proofs.GrammarExprs.{expr-sound, expr-complete}
 

@@ -1,19 +1,19 @@
 -- Expressions: reading makes what the grammar derives, and nothing else.
-use mathlib.Core.Path.{_≡_, refl, sym, ap, _∙_}
-use mathlib.Core.Bool.{Bool, true, false, cond}
-use mathlib.Core.List.{List, [], _∷_}
-use Prim.Native.Nat.{ℕ, zero, suc, _+_, _≤_, _<_, max}
+use mathlib.Core.Path.{_≡_, refl}
+use mathlib.Core.Bool.{Bool}
+use mathlib.Core.List.{List}
+use Prim.Native.Nat.{ℕ, zero, suc, _+_, _≤_}
 use native.Mathlib.Omega.{arith}
-use Rattle.std.specs.declared.option.Option.the-variants.{Some, None}
+use Rattle.std.specs.declared.option.Option.the-variants.{Some}
 use Rattle.text.specs.declared.bracket.Bracket.{Bracket}
 use Rattle.text.specs.declared.keyword.Keyword.{Keyword}
 use Rattle.text.specs.declared.keyword.Keyword.the-variants as keyword
 use Rattle.text.specs.declared.token.TokenKind.{TokenKind}
 use Rattle.text.specs.declared.token.TokenKind.the-variants as kind
-use Rattle.syntax.specs.Forms.{Two, two, not-two, twoOf, Form, if-form, begin-form, let-form, case-form, dup-form, apply-form, no-form, formOf}
+use Rattle.syntax.specs.Forms.{Two, Form, if-form, begin-form, let-form, case-form, dup-form, apply-form, no-form, formOf}
 use Rattle.syntax.specs.Grammar.{NameOf, word, PatternOf, ExprOf, integer, symbol, true-literal, false-literal, unit-literal, name-expression, if-expression, begin-expression, let-expression, case-expression, dup-expression, apply-expression, ExprsOf, no-exprs, and-expr, BindingsOf, no-bindings, and-binding, BranchesOf, last-branch, and-branch}
 use Rattle.syntax.specs.Limits.{exprNodes, exprsNodes, bindingsNodes, branchesNodes}
-use Rattle.syntax.specs.Reading.{Tally, Outcome, refused, made, readName, readPattern, Branch, Binding, atomExpr, exprAtom, readExprs, bindingOf, readBinding, readBindings, readBindingList, branchOf, readBranch, readBranches, readForm, readExpr}
+use Rattle.syntax.specs.Reading.{Tally, Outcome, Branch, Binding, atomExpr, exprAtom, readExprs, bindingOf, readBinding, readBindings, readBindingList, branchOf, readBranch, readBranches, readForm, readExpr}
 use Rattle.syntax.specs.Sexps.{Sexp, atom, list, Sexps, nil, cons, depth, depths}
 use Rattle.syntax.specs.Trees as tree
 use Rattle.syntax.specs.Trees.{Ident, Pattern, Expr, Exprs, Bindings, Branches}

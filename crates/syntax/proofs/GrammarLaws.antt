@@ -12,16 +12,16 @@ use Rattle.text.specs.Scans.{scan}
 use Rattle.text.specs.Tokens.{Lexeme}
 use Rattle.text.specs.declared.refusal.Refused.{Refused}
 use Rattle.text.specs.declared.token.TokenKind.the-variants.{Symbol}
-use Rattle.syntax.specs.Grammar.{Nested, ScriptOf, Derives}
+use Rattle.syntax.specs.Grammar.{ScriptOf, Derives}
 use Rattle.syntax.specs.Laws.{Nests, Quotes, Reads}
 use Rattle.syntax.specs.Limits.{Within}
-use Rattle.syntax.specs.Reading.{Tally, Outcome, refused, made, readDefinitions, fresh, concluded, onTokens, unquoted, reading}
+use Rattle.syntax.specs.Reading.{Outcome, refused, made, readDefinitions, fresh, concluded, onTokens, unquoted, reading}
 use Rattle.syntax.specs.Sexps.{Sexps, depths, nested}
 use Rattle.syntax.specs.Trees.{Script}
 use Rattle.syntax.proofs.GrammarDefinitions.{ScriptRead, script-sound, script-complete}
 use Rattle.syntax.proofs.GrammarNesting.{nested-only, nested-stands, nested-shallow}
 use Rattle.syntax.proofs.GrammarOnly.{script-only}
-use Rattle.syntax.proofs.GrammarOutcomes.{Used, Room, Fits, Holds, not-made, holds, Makes, makes}
+use Rattle.syntax.proofs.GrammarOutcomes.{Fits, Holds, not-made, holds, Makes, makes}
 use Rattle.syntax.proofs.GrammarScan.{scan-tokens, tokens-scan}
 
 clash : _≡_ {A = ℕ} 0 1 → ⊥

@@ -1,8 +1,8 @@
 -- Tokens in pairs of brackets are forms in one way only.
 use mathlib.Core.Path.{_≡_, refl, sym, ap, subst, _∙_}
 use mathlib.Core.List.{List, [], _∷_}
-use Prim.Native.Nat.{ℕ, suc, _+_, _-_, _≤_, _<_, max}
-use native.Mathlib.Nat.{max-le, le-max-left, le-max-right}
+use Prim.Native.Nat.{ℕ, suc, _+_, _-_, _≤_, max}
+use native.Mathlib.Nat.{max-le}
 use native.Mathlib.Omega.{arith}
 use lib.ListN.{length}
 use Rattle.text.specs.Grammar.{Spelt, Cut, last, next, NoBracket, Paired, closed, opens, closes, other, Tokens}

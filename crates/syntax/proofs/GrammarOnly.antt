@@ -1,6 +1,6 @@
 -- The grammar is unambiguous: forms are one tree at most.
 use mathlib.Core.Path.{_≡_, refl, sym, ap, _∙_}
-use mathlib.Core.List.{List, [], _∷_}
+use mathlib.Core.List.{List}
 use Prim.Native.Nat.{ℕ}
 use native.Mathlib.Omega.{arith}
 use Rattle.syntax.specs.Grammar.{NameOf, TypeOf, int-type, bool-type, sym-type, unit-type, datatype, function-type, TypesOf, no-types, and-type, PartOf, bound, skipped, PartsOf, no-parts, and-part, PatternOf, wildcard, constructor, ExprOf, integer, symbol, true-literal, false-literal, unit-literal, name-expression, if-expression, begin-expression, let-expression, case-expression, dup-expression, apply-expression, ExprsOf, no-exprs, and-expr, BindingsOf, no-bindings, and-binding, BranchesOf, last-branch, and-branch, ConstructorOf, constructor-definition, ConstructorsOf, no-constructors, and-constructor, NamesOf, no-names, and-name, DefinitionOf, datatype-definition, type-annotation, function-definition, val-binding, ScriptOf, no-definitions, and-definition}

@@ -7,11 +7,9 @@ use native.Mathlib.Omega.{arith}
 use borrow.Author.Tests.{le-leb, lt-ltb}
 use lib.ListN.{length, drop}
 use Rattle.std.proofs.shelf.Lists.{append-nil, drop-all, take-at, drop-at}
-use Rattle.std.specs.declared.result.Result.{Result}
-use Rattle.std.specs.declared.result.Result.the-variants.{Ok, Err}
+use Rattle.std.specs.declared.result.Result.the-variants.{Ok}
 use Rattle.text.specs.declared.bracket.Bracket.{Bracket}
 use Rattle.text.specs.declared.bracket.Bracket.the-variants.{Round, Square}
-use Rattle.text.specs.declared.refusal.Refused.{Refused}
 use Rattle.text.specs.declared.token.TokenKind.{TokenKind}
 use Rattle.text.specs.declared.token.TokenKind.the-variants as kind
 use Rattle.text.specs.Bytes.{separatorRun}

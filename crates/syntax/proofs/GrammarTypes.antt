@@ -1,13 +1,12 @@
 -- Names, type expressions and patterns: reading makes what the grammar derives, and nothing else.
-use mathlib.Core.Path.{_≡_, refl, sym, ap, _∙_}
+use mathlib.Core.Path.{_≡_, refl}
 use mathlib.Core.Bool.{Bool, true, false, cond}
-use mathlib.Core.List.{List, [], _∷_}
-use Prim.Native.Nat.{ℕ, zero, suc, _+_, _≤_, _<_, max}
-use native.Mathlib.Nat.{le-max-left, le-max-right}
+use mathlib.Core.List.{List, _∷_}
+use Prim.Native.Nat.{ℕ, zero, suc, _+_, _≤_}
 use native.Mathlib.Omega.{arith}
 use borrow.Author.Tests.{lt-ltb, ltb-true}
 use lib.Dec.{ltb}
-use Rattle.std.specs.declared.option.Option.the-variants.{Some, None}
+use Rattle.std.specs.declared.option.Option.the-variants.{Some}
 use Rattle.text.specs.declared.bracket.Bracket.{Bracket}
 use Rattle.text.specs.declared.keyword.Keyword.{Keyword}
 use Rattle.text.specs.declared.keyword.Keyword.the-variants as keyword
@@ -16,11 +15,11 @@ use Rattle.text.specs.declared.token.TokenKind.the-variants as kind
 use Rattle.syntax.specs.Forms.{Two, two, not-two, twoOf, arrowOf}
 use Rattle.syntax.specs.Grammar.{NameOf, word, TypeOf, int-type, bool-type, sym-type, unit-type, datatype, function-type, TypesOf, no-types, and-type, PartOf, bound, skipped, PartsOf, no-parts, and-part, PatternOf, wildcard, constructor}
 use Rattle.syntax.specs.Limits.{typeCount, typesCount, typesLength, SixInType, SixInTypes}
-use Rattle.syntax.specs.Reading.{Tally, Outcome, refused, made, ident, nameOf, readName, atomType, typeAtom, typeShaped, readTypes, readTypeList, readArrow, readType, readPart, readParts, readConstructorPattern, readPattern, wrong, overLimit, andThen}
+use Rattle.syntax.specs.Reading.{Tally, Outcome, made, readName, atomType, typeAtom, typeShaped, readTypes, readTypeList, readArrow, readType, readPart, readParts, readPattern, wrong, overLimit, andThen}
 use Rattle.syntax.specs.Sexps.{Sexp, atom, list, Sexps, nil, cons, place, depth, depths}
 use Rattle.syntax.specs.Trees as tree
 use Rattle.syntax.specs.Trees.{Ident, TypeExpr, TypeExprs, PatternPart, Pattern}
-use Rattle.syntax.proofs.GrammarOutcomes.{Read, Same, none, Used, used-none, used-then, types-then, Room, Fits, types-room, Holds, not-made, holds, holds-then, holds-so, Makes, makes, makes-then, holds-type, makes-type}
+use Rattle.syntax.proofs.GrammarOutcomes.{Read, Same, none, used-none, used-then, types-then, Room, Fits, types-room, Holds, not-made, holds, holds-then, holds-so, Makes, makes, makes-then, holds-type, makes-type}
 
 clash : _≡_ {A = ℕ} 0 1 → ⊥
 clash z = omega arith
