@@ -11,13 +11,14 @@ use Rattle.text.specs.declared.bracket.Bracket.{Bracket}
 use Rattle.text.specs.declared.keyword.Keyword.{Keyword}
 use Rattle.text.specs.declared.keyword.Keyword.the-variants as keyword
 use Rattle.text.specs.declared.token.TokenKind.the-variants as kind
-use Rattle.syntax.specs.Forms.{Two, DefinitionForm, datatype-form, annotation-form, define-form, val-form, no-definition, definitionOf}
+use Rattle.syntax.specs.Forms.{Two, twoOf, threeOf, DefinitionForm, datatype-form, annotation-form, define-form, val-form, no-definition, datatypeForm, annotationForm, defineForm, valForm, definitionOf}
 use Rattle.syntax.specs.Grammar.{NameOf, word, TypesOf, ExprOf, ConstructorOf, constructor-definition, ConstructorsOf, no-constructors, and-constructor, NamesOf, no-names, and-name, DefinitionOf, datatype-definition, type-annotation, function-definition, val-binding, ScriptOf, no-definitions, and-definition}
 use Rattle.syntax.specs.Limits.{typesCount, typesLength, fieldsCount, nodesOf, typesOf, bindingsOf, datatypesOf, constructorsOf, total, SixInTypes, SixInConstructors, SixInDefinition, SixInScript}
 use Rattle.syntax.specs.Reading.{Tally, made, andThen, overLimit, constructorOf, readConstructor, readConstructors, readConstructorList, readParameters, readParameterList, readType, readDefinitionForm, readDefinition, readDefinitions}
 use Rattle.syntax.specs.Sexps.{Sexp, atom, list, Sexps, nil, cons, place, depth, depths}
 use Rattle.syntax.specs.Trees as tree
 use Rattle.syntax.specs.Trees.{Ident, TypeExprs, Expr, Constructor, Definition, Script}
+use Rattle.syntax.proofs.GrammarKeys.{by-key}
 use Rattle.syntax.proofs.GrammarOutcomes.{Read, none, Used, used-none, used-then, used-same, Room, Fits, room, Holds, not-made, holds, holds-then, holds-so, Makes, makes, makes-then, holds-binding, makes-binding, holds-datatype, makes-datatype, holds-constructor, makes-constructor}
 use Rattle.syntax.proofs.GrammarTypes.{Listed, listed, TwoView, is-two, other, two-view, name-sound, name-complete, type-sound, type-complete, type-list-sound, types-complete}
 use Rattle.syntax.proofs.GrammarExprs.{expr-sound, expr-complete}
@@ -38,40 +39,39 @@ definition-view (cons (atom (kind.Open b) p w) es) = is-none
 definition-view (cons (atom (kind.Close b) p w) es) = is-none
 definition-view (cons (atom kind.Symbol p w) es) = is-none
 definition-view (cons (atom (kind.Integer z) p w) es) = is-none
-definition-view (cons (atom (kind.Keyword k) p w) es) = go k es
+definition-view (cons (atom (kind.Keyword k) p w) es) =
+    by-key view keyword.Datatype k _ _ (datatype-view es)
+    (by-key view keyword.Colon k _ _ (annotation-view es)
+    (by-key view keyword.Define k _ _ (define-view es)
+    (by-key view keyword.Val k _ _ (val-view es) is-none)))
   where
-    go : (k : Keyword) (es : Sexps) → DefinitionView (cons (word k p w) es) (definitionOf (cons (word k p w) es))
-    go keyword.Datatype nil = is-none
-    go keyword.Datatype (cons a nil) = is-none
-    go keyword.Datatype (cons a (cons b nil)) = is-datatype
-    go keyword.Datatype (cons a (cons b (cons c rest))) = is-none
-    go keyword.Colon nil = is-none
-    go keyword.Colon (cons a nil) = is-none
-    go keyword.Colon (cons a (cons b nil)) = is-annotation
-    go keyword.Colon (cons a (cons b (cons c rest))) = is-none
-    go keyword.Val nil = is-none
-    go keyword.Val (cons a nil) = is-none
-    go keyword.Val (cons a (cons b nil)) = is-val
-    go keyword.Val (cons a (cons b (cons c rest))) = is-none
-    go keyword.Define nil = is-none
-    go keyword.Define (cons a nil) = is-none
-    go keyword.Define (cons a (cons b nil)) = is-none
-    go keyword.Define (cons a (cons b (cons c nil))) = is-define
-    go keyword.Define (cons a (cons b (cons c (cons d rest)))) = is-none
-    go keyword.Use es = is-none
-    go keyword.If es = is-none
-    go keyword.Case es = is-none
-    go keyword.Begin es = is-none
-    go keyword.Let es = is-none
-    go keyword.Dup es = is-none
-    go keyword.Arrow es = is-none
-    go keyword.Int es = is-none
-    go keyword.Bool es = is-none
-    go keyword.Sym es = is-none
-    go keyword.Unit es = is-none
-    go keyword.True es = is-none
-    go keyword.False es = is-none
-    go keyword.Wildcard es = is-none
+    view : Keyword → DefinitionForm → Type 0
+    view k = DefinitionView (cons (word k p w) es)
+
+    datatype-view : (es : Sexps) → DefinitionView (cons (word keyword.Datatype p w) es) (datatypeForm (twoOf es))
+    datatype-view nil = is-none
+    datatype-view (cons a nil) = is-none
+    datatype-view (cons a (cons b nil)) = is-datatype
+    datatype-view (cons a (cons b (cons c rest))) = is-none
+
+    annotation-view : (es : Sexps) → DefinitionView (cons (word keyword.Colon p w) es) (annotationForm (twoOf es))
+    annotation-view nil = is-none
+    annotation-view (cons a nil) = is-none
+    annotation-view (cons a (cons b nil)) = is-annotation
+    annotation-view (cons a (cons b (cons c rest))) = is-none
+
+    define-view : (es : Sexps) → DefinitionView (cons (word keyword.Define p w) es) (defineForm (threeOf es))
+    define-view nil = is-none
+    define-view (cons a nil) = is-none
+    define-view (cons a (cons b nil)) = is-none
+    define-view (cons a (cons b (cons c nil))) = is-define
+    define-view (cons a (cons b (cons c (cons d rest)))) = is-none
+
+    val-view : (es : Sexps) → DefinitionView (cons (word keyword.Val p w) es) (valForm (twoOf es))
+    val-view nil = is-none
+    val-view (cons a nil) = is-none
+    val-view (cons a (cons b nil)) = is-val
+    val-view (cons a (cons b (cons c rest))) = is-none
 
 -- what is read of one constructor, of constructors, of a definition, of a script
 record ConstructorRead (entries : ℕ) (s : Sexp) (n : Tally) (c : Constructor) (m : Tally) : Type 0 where
@@ -103,11 +103,11 @@ made-constructor : {a : Bracket} {p q : ℕ} {x s : Sexp} {c : Constructor} → 
 made-constructor e h (listed k) = constructor-definition e h k
 
 made-datatype : {a : Bracket} {p q i : ℕ} {w : List ℕ} {x s : Sexp} {y : Ident} {cs : List Constructor} → NameOf x y → Listed (λ ss. ConstructorsOf ss cs) s
-  → DefinitionOf (list a p (cons (word keyword.Datatype i w) (cons x (cons s nil))) q) (tree.datatype-definition p y cs)
+    → DefinitionOf (list a p (cons (word keyword.Datatype i w) (cons x (cons s nil))) q) (tree.datatype-definition p y cs)
 made-datatype h (listed k) = datatype-definition h k
 
 made-define : {a : Bracket} {p q i : ℕ} {w : List ℕ} {x s r : Sexp} {y : Ident} {ys : List Ident} {e : Expr} → NameOf x y → Listed (λ ss. NamesOf ss ys) s → ExprOf r e
-  → DefinitionOf (list a p (cons (word keyword.Define i w) (cons x (cons s (cons r nil)))) q) (tree.function-definition p y ys e)
+    → DefinitionOf (list a p (cons (word keyword.Define i w) (cons x (cons s (cons r nil)))) q) (tree.function-definition p y ys e)
 made-define h (listed k) d = function-definition h k d
 
 module _ (entries : ℕ) where
@@ -119,7 +119,7 @@ module _ (entries : ℕ) where
       go other = not-made
       go (is-two {a = x} {b = s}) =
           holds-constructor entries p n f (λ m u g. holds-then (name-sound entries x m g) (λ c m₁ h. holds-then (type-list-sound entries (readType 64) (type-sound entries 64) s m₁ (h .fits)) (λ ts m₂ k.
-            holds record { derived = made-constructor refl (h .derived) (k .derived .0); few = k .derived .1; six = k .derived .2; used = used-same (used-then (used-then u (h .used)) (k .used)) (omega arith) (omega arith) (omega arith) (omega arith) (omega arith); fits = k .fits })))
+          holds record { derived = made-constructor refl (h .derived) (k .derived .0); few = k .derived .1; six = k .derived .2; used = used-same (used-then (used-then u (h .used)) (k .used)) (omega arith) (omega arith) (omega arith) (omega arith) (omega arith); fits = k .fits })))
 
   constructors-sound : (ss : Sexps) (n : Tally) → Fits entries n → Holds (ConstructorsRead entries (ConstructorsOf ss) n) (readConstructors entries ss n)
   constructors-sound nil n f = holds record { derived = no-constructors; six = tt; used = used-none; fits = f }
@@ -135,8 +135,8 @@ module _ (entries : ℕ) where
   parameters-sound k (cons s ss) n le f = holds-then (name-sound entries s n f) (λ x m h. go (ltb k 6) refl x m h (parameters-sound (k + 1) ss m))
     where
       go : (t : Bool) → ltb k 6 ≡ t → (x : Ident) (m : Tally) → Read (NameOf s) none none entries n x m
-        → (k + 1 ≤ 6 → Fits entries m → Holds (Read (λ xs. NamesOf ss xs × (k + 1 + length xs ≤ 6)) none none entries m) (readParameters entries (k + 1) ss m))
-        → Holds (Read (λ xs. NamesOf (cons s ss) xs × (k + length xs ≤ 6)) none none entries n) (cond t (andThen (readParameters entries (k + 1) ss m) (λ xs n. made (x ∷ xs) n)) (overLimit (place s)))
+          → (k + 1 ≤ 6 → Fits entries m → Holds (Read (λ xs. NamesOf ss xs × (k + 1 + length xs ≤ 6)) none none entries m) (readParameters entries (k + 1) ss m))
+          → Holds (Read (λ xs. NamesOf (cons s ss) xs × (k + length xs ≤ 6)) none none entries n) (cond t (andThen (readParameters entries (k + 1) ss m) (λ xs n. made (x ∷ xs) n)) (overLimit (place s)))
       go false e x m h more = not-made
       go true e x m h more =
           let lt = ltb-true k 6 e in
@@ -154,16 +154,16 @@ module _ (entries : ℕ) where
       go is-none = not-made
       go (is-datatype {a = x} {b = s}) =
           holds-datatype entries p n f (λ m u g. holds-then (name-sound entries x m g) (λ i m₁ h. holds-then (constructor-list-sound s m₁ (h .fits)) (λ cs m₂ k.
-            holds record { derived = made-datatype (h .derived) (k .derived); six = k .six; used = used-same (used-then (used-then u (h .used)) (k .used)) (omega arith) (omega arith) (omega arith) (omega arith) (omega arith); fits = k .fits })))
+          holds record { derived = made-datatype (h .derived) (k .derived); six = k .six; used = used-same (used-then (used-then u (h .used)) (k .used)) (omega arith) (omega arith) (omega arith) (omega arith) (omega arith); fits = k .fits })))
       go (is-annotation {a = x} {b = s}) =
           holds-then (name-sound entries x n f) (λ i m₁ h. holds-then (type-sound entries 64 s m₁ (h .fits)) (λ t m₂ k.
-            holds record { derived = type-annotation (h .derived) (k .derived .0); six = k .derived .1; used = used-same (used-then (h .used) (k .used)) (omega arith) (omega arith) (omega arith) (omega arith) (omega arith); fits = k .fits }))
+          holds record { derived = type-annotation (h .derived) (k .derived .0); six = k .derived .1; used = used-same (used-then (h .used) (k .used)) (omega arith) (omega arith) (omega arith) (omega arith) (omega arith); fits = k .fits }))
       go (is-define {a = x} {b = s} {c = r}) =
           holds-binding entries p n f (λ m u g. holds-then (name-sound entries x m g) (λ i m₁ h. holds-then (parameter-list-sound s m₁ (h .fits)) (λ xs m₂ k. holds-then (expr-sound entries 64 r m₂ (k .fits)) (λ e m₃ l.
-            holds record { derived = made-define (h .derived) (k .derived .0) (l .derived); six = k .derived .1; used = used-same (used-then (used-then (used-then u (h .used)) (k .used)) (l .used)) (omega arith) (omega arith) (omega arith) (omega arith) (omega arith); fits = l .fits }))))
+          holds record { derived = made-define (h .derived) (k .derived .0) (l .derived); six = k .derived .1; used = used-same (used-then (used-then (used-then u (h .used)) (k .used)) (l .used)) (omega arith) (omega arith) (omega arith) (omega arith) (omega arith); fits = l .fits }))))
       go (is-val {a = x} {b = s}) =
           holds-binding entries p n f (λ m u g. holds-then (name-sound entries x m g) (λ i m₁ h. holds-then (expr-sound entries 64 s m₁ (h .fits)) (λ e m₂ k.
-            holds record { derived = val-binding (h .derived) (k .derived); six = tt; used = used-same (used-then (used-then u (h .used)) (k .used)) (omega arith) (omega arith) (omega arith) (omega arith) (omega arith); fits = k .fits })))
+          holds record { derived = val-binding (h .derived) (k .derived); six = tt; used = used-same (used-then (used-then u (h .used)) (k .used)) (omega arith) (omega arith) (omega arith) (omega arith) (omega arith); fits = k .fits })))
 
   pub script-sound : (ss : Sexps) (n : Tally) → Fits entries n → Holds (ScriptRead entries ss n) (readDefinitions entries ss n)
   script-sound nil n f = holds record { derived = no-definitions; six = tt; used = used-none; fits = f }
@@ -201,11 +201,11 @@ module _ (entries : ℕ) where
   parameters-complete no-names k le n = makes record { same = refl; used = used-none }
   parameters-complete (and-name {s = s} {ss = ss} {xs = xs} h more) k le n =
       makes-then (name-complete n h) (λ x m y. rw (lt-ltb k 6 (omega arith))
-        (makes-then (parameters-complete more (k + 1) (omega arith) m) (λ xs m₁ z.
-         makes {x = x ∷ xs} record { same = cc (y .same, z .same); used = used-then (y .used) (z .used) })))
+      (makes-then (parameters-complete more (k + 1) (omega arith) m) (λ xs m₁ z.
+      makes {x = x ∷ xs} record { same = cc (y .same, z .same); used = used-then (y .used) (z .used) })))
 
   definition-complete : {s : Sexp} {d : Definition} → DefinitionOf s d → depth s ≤ 64 → SixInDefinition d → (n : Tally) → Room entries n (nodesOf d) (typesOf d) (bindingsOf d) (datatypesOf d) (constructorsOf d)
-    → Makes (Again d (nodesOf d) (typesOf d) (bindingsOf d) (datatypesOf d) (constructorsOf d) n) (readDefinition entries s n)
+      → Makes (Again d (nodesOf d) (typesOf d) (bindingsOf d) (datatypesOf d) (constructorsOf d) n) (readDefinition entries s n)
   definition-complete (datatype-definition {p = p} {ss = ss} h k) le x n r =
       makes-datatype entries p n (room used-none r (omega arith) (omega arith) (omega arith) (omega arith) (omega arith)) (λ m u.
       makes-then (name-complete m h) (λ i m₁ y.
@@ -228,7 +228,7 @@ module _ (entries : ℕ) where
       makes {x = tree.val-binding p i e} record { same = cc (y .same, z .same); used = used-same (used-then (used-then u (y .used)) (z .used)) (omega arith) (omega arith) (omega arith) (omega arith) (omega arith) })))
 
   pub script-complete : {ss : Sexps} {ds : Script} → ScriptOf ss ds → depths ss ≤ 64 → SixInScript ds → (n : Tally) → Room entries n (total nodesOf ds) (total typesOf ds) (total bindingsOf ds) (total datatypesOf ds) (total constructorsOf ds)
-    → Makes (λ y m. y ≡ ds) (readDefinitions entries ss n)
+      → Makes (λ y m. y ≡ ds) (readDefinitions entries ss n)
   script-complete no-definitions le x n r = makes refl
   script-complete (and-definition {s = s} {ss = ss} h more) le x n r =
       makes-then (definition-complete h (omega arith) (x .0) n (room used-none r (omega arith) (omega arith) (omega arith) (omega arith) (omega arith))) (λ d m y.

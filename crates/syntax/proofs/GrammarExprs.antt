@@ -1,22 +1,24 @@
 -- Expressions: reading makes what the grammar derives, and nothing else.
 use mathlib.Core.Path.{_≡_, refl}
-use mathlib.Core.Bool.{Bool}
+use mathlib.Core.Bool.{Bool, true, false, _||_, cond}
 use mathlib.Core.List.{List}
 use Prim.Native.Nat.{ℕ, zero, suc, _+_, _≤_}
 use native.Mathlib.Omega.{arith}
+use Rattle.std.specs.declared.option.Option.{Option}
 use Rattle.std.specs.declared.option.Option.the-variants.{Some}
 use Rattle.text.specs.declared.bracket.Bracket.{Bracket}
 use Rattle.text.specs.declared.keyword.Keyword.{Keyword}
 use Rattle.text.specs.declared.keyword.Keyword.the-variants as keyword
 use Rattle.text.specs.declared.token.TokenKind.{TokenKind}
 use Rattle.text.specs.declared.token.TokenKind.the-variants as kind
-use Rattle.syntax.specs.Forms.{Two, Form, if-form, begin-form, let-form, case-form, dup-form, apply-form, no-form, formOf}
+use Rattle.syntax.specs.Forms.{isKey, Two, twoOf, threeOf, Form, if-form, begin-form, let-form, case-form, dup-form, apply-form, no-form, ifForm, beginForm, letForm, caseForm, dupForm, formOf}
 use Rattle.syntax.specs.Grammar.{NameOf, word, PatternOf, ExprOf, integer, symbol, true-literal, false-literal, unit-literal, name-expression, if-expression, begin-expression, let-expression, case-expression, dup-expression, apply-expression, ExprsOf, no-exprs, and-expr, BindingsOf, no-bindings, and-binding, BranchesOf, last-branch, and-branch}
 use Rattle.syntax.specs.Limits.{exprNodes, exprsNodes, bindingsNodes, branchesNodes}
 use Rattle.syntax.specs.Reading.{Tally, Outcome, Branch, Binding, atomExpr, exprAtom, readExprs, bindingOf, readBinding, readBindings, readBindingList, branchOf, readBranch, readBranches, readForm, readExpr}
 use Rattle.syntax.specs.Sexps.{Sexp, atom, list, Sexps, nil, cons, depth, depths}
 use Rattle.syntax.specs.Trees as tree
 use Rattle.syntax.specs.Trees.{Ident, Pattern, Expr, Exprs, Bindings, Branches}
+use Rattle.syntax.proofs.GrammarKeys.{by-key}
 use Rattle.syntax.proofs.GrammarOutcomes.{Read, Same, none, Used, used-none, nodes-then, Room, Fits, nodes-room, Holds, not-made, holds, holds-then, holds-so, Makes, makes, makes-then, holds-node, makes-node}
 use Rattle.syntax.proofs.GrammarTypes.{Listed, listed, TwoView, is-two, other, two-view, name-sound, name-complete, pattern-sound, pattern-complete}
 
@@ -38,39 +40,47 @@ form-view (cons (atom (kind.Open b) p w) es) = is-apply
 form-view (cons (atom (kind.Close b) p w) es) = is-apply
 form-view (cons (atom kind.Symbol p w) es) = is-apply
 form-view (cons (atom (kind.Integer z) p w) es) = is-apply
-form-view (cons (atom (kind.Keyword k) p w) es) = go k es
+form-view (cons (atom (kind.Keyword k) p w) es) =
+    by-key view keyword.If k _ _ (if-view es)
+    (by-key view keyword.Begin k _ _ (begin-view es)
+    (by-key view keyword.Let k _ _ (let-view es)
+    (by-key view keyword.Case k _ _ (case-view es)
+    (by-key view keyword.Dup k _ _ (dup-view es)
+    (literal (isKey k keyword.Unit || isKey k keyword.True || isKey k keyword.False))))))
   where
-    go : (k : Keyword) (es : Sexps) → FormView (cons (word k p w) es) (formOf (cons (word k p w) es))
-    go keyword.If nil = is-none
-    go keyword.If (cons a nil) = is-none
-    go keyword.If (cons a (cons b nil)) = is-none
-    go keyword.If (cons a (cons b (cons c nil))) = is-if
-    go keyword.If (cons a (cons b (cons c (cons d rest)))) = is-none
-    go keyword.Begin nil = is-none
-    go keyword.Begin (cons a rest) = is-begin
-    go keyword.Let nil = is-none
-    go keyword.Let (cons a nil) = is-none
-    go keyword.Let (cons a (cons b nil)) = is-let
-    go keyword.Let (cons a (cons b (cons c rest))) = is-none
-    go keyword.Case nil = is-none
-    go keyword.Case (cons a nil) = is-none
-    go keyword.Case (cons a (cons b rest)) = is-case
-    go keyword.Dup nil = is-none
-    go keyword.Dup (cons a nil) = is-dup
-    go keyword.Dup (cons a (cons b rest)) = is-none
-    go keyword.Unit es = is-apply
-    go keyword.True es = is-apply
-    go keyword.False es = is-apply
-    go keyword.Colon es = is-none
-    go keyword.Val es = is-none
-    go keyword.Define es = is-none
-    go keyword.Datatype es = is-none
-    go keyword.Use es = is-none
-    go keyword.Arrow es = is-none
-    go keyword.Int es = is-none
-    go keyword.Bool es = is-none
-    go keyword.Sym es = is-none
-    go keyword.Wildcard es = is-none
+    view : Keyword → Form → Type 0
+    view k = FormView (cons (word k p w) es)
+
+    if-view : (es : Sexps) → FormView (cons (word keyword.If p w) es) (ifForm (threeOf es))
+    if-view nil = is-none
+    if-view (cons a nil) = is-none
+    if-view (cons a (cons b nil)) = is-none
+    if-view (cons a (cons b (cons c nil))) = is-if
+    if-view (cons a (cons b (cons c (cons d rest)))) = is-none
+
+    begin-view : (es : Sexps) → FormView (cons (word keyword.Begin p w) es) (beginForm es)
+    begin-view nil = is-none
+    begin-view (cons a rest) = is-begin
+
+    let-view : (es : Sexps) → FormView (cons (word keyword.Let p w) es) (letForm (twoOf es))
+    let-view nil = is-none
+    let-view (cons a nil) = is-none
+    let-view (cons a (cons b nil)) = is-let
+    let-view (cons a (cons b (cons c rest))) = is-none
+
+    case-view : (es : Sexps) → FormView (cons (word keyword.Case p w) es) (caseForm es)
+    case-view nil = is-none
+    case-view (cons a nil) = is-none
+    case-view (cons a (cons b rest)) = is-case
+
+    dup-view : (es : Sexps) → FormView (cons (word keyword.Dup p w) es) (dupForm es)
+    dup-view nil = is-none
+    dup-view (cons a nil) = is-dup
+    dup-view (cons a (cons b rest)) = is-none
+
+    literal : (t : Bool) → FormView (cons (word k p w) es) (cond t (apply-form (word k p w) es) no-form)
+    literal true = is-apply
+    literal false = is-none
 
 -- one binding and one branch
 data BindingOf : Sexp → Binding → Type 0 where
@@ -89,7 +99,7 @@ made-last : {s : Sexp} {b : Branch} → BranchOf s b → BranchesOf (cons s nil)
 made-last (branch e x d) = rw e (last-branch x d)
 
 made-let : {a : Bracket} {p q i : ℕ} {w : List ℕ} {s r : Sexp} {bs : Bindings} {e : Expr} → Listed (λ ss. BindingsOf ss bs) s → ExprOf r e
-  → ExprOf (list a p (cons (word keyword.Let i w) (cons s (cons r nil))) q) (tree.let-expr p bs e)
+    → ExprOf (list a p (cons (word keyword.Let i w) (cons s (cons r nil))) q) (tree.let-expr p bs e)
 made-let (listed h) k = let-expression h k
 
 module _ (entries : ℕ) where
@@ -102,27 +112,13 @@ module _ (entries : ℕ) where
   atom-sound (kind.Close b) p w n f = not-made
   atom-sound kind.Symbol p w n f = one-node _ _ p n f (symbol refl) refl
   atom-sound (kind.Integer z) p w n f = one-node _ _ p n f integer refl
-  atom-sound (kind.Keyword k) p w n f = go k
+  atom-sound (kind.Keyword k) p w n f =
+      by-key reads keyword.True k _ _ (one-node _ _ p n f true-literal refl)
+      (by-key reads keyword.False k _ _ (one-node _ _ p n f false-literal refl)
+      (by-key reads keyword.Unit k _ _ (one-node _ _ p n f unit-literal refl) not-made))
     where
-      go : (k : Keyword) → Holds (Read (ExprOf (word k p w)) exprNodes none entries n) (exprAtom entries p (atomExpr entries (kind.Keyword k) p w) n)
-      go keyword.True = one-node _ _ p n f true-literal refl
-      go keyword.False = one-node _ _ p n f false-literal refl
-      go keyword.Unit = one-node _ _ p n f unit-literal refl
-      go keyword.Colon = not-made
-      go keyword.Val = not-made
-      go keyword.Define = not-made
-      go keyword.Datatype = not-made
-      go keyword.Use = not-made
-      go keyword.If = not-made
-      go keyword.Case = not-made
-      go keyword.Begin = not-made
-      go keyword.Let = not-made
-      go keyword.Dup = not-made
-      go keyword.Arrow = not-made
-      go keyword.Int = not-made
-      go keyword.Bool = not-made
-      go keyword.Sym = not-made
-      go keyword.Wildcard = not-made
+      reads : Keyword → Option Expr → Type 0
+      reads k e = Holds (Read (ExprOf (word k p w)) exprNodes none entries n) (exprAtom entries p e n)
 
   module _ (read : Sexp → Tally → Outcome Expr) (sound : (s : Sexp) (n : Tally) → Fits entries n → Holds (Read (ExprOf s) exprNodes none entries n) (read s n)) where
     exprs-sound : (ss : Sexps) (n : Tally) → Fits entries n → Holds (Read (ExprsOf ss) exprsNodes none entries n) (readExprs entries read ss n)
@@ -138,7 +134,7 @@ module _ (entries : ℕ) where
         go other = not-made
         go (is-two {a = x} {b = s}) =
             holds-node entries p n f (λ m u g. holds-then (name-sound entries x m g) (λ i m₁ h. holds-then (sound s m₁ (h .fits)) (λ e m₂ k.
-              holds record { derived = binding refl (h .derived) (k .derived); used = nodes-then (nodes-then u (h .used)) (k .used); fits = k .fits })))
+            holds record { derived = binding refl (h .derived) (k .derived); used = nodes-then (nodes-then u (h .used)) (k .used); fits = k .fits })))
 
     bindings-sound : (ss : Sexps) (n : Tally) → Fits entries n → Holds (Read (BindingsOf ss) bindingsNodes none entries n) (readBindings entries read ss n)
     bindings-sound nil n f = holds record { derived = no-bindings; used = used-none; fits = f }
@@ -157,7 +153,7 @@ module _ (entries : ℕ) where
         go other = not-made
         go (is-two {a = x} {b = s}) =
             holds-node entries p n f (λ m u g. holds-then (pattern-sound entries x m g) (λ i m₁ h. holds-then (sound s m₁ (h .fits)) (λ e m₂ k.
-              holds record { derived = branch refl (h .derived) (k .derived); used = nodes-then (nodes-then u (h .used)) (k .used); fits = k .fits })))
+            holds record { derived = branch refl (h .derived) (k .derived); used = nodes-then (nodes-then u (h .used)) (k .used); fits = k .fits })))
 
     branches-sound : (s : Sexp) (ss : Sexps) (n : Tally) → Fits entries n → Holds (Read (BranchesOf (cons s ss)) branchesNodes none entries n) (readBranches entries read s ss n)
     branches-sound s nil n f = holds-then (branch-sound s n f) (λ b m h. holds record { derived = made-last (h .derived); used = h .used; fits = h .fits })
@@ -168,22 +164,22 @@ module _ (entries : ℕ) where
     form-sound a p q n is-none f = not-made
     form-sound a p q n (is-if {a = s} {b = t} {c = r}) f =
         holds-node entries p n f (λ m u g. holds-then (sound s m g) (λ e m₁ x. holds-then (sound t m₁ (x .fits)) (λ e′ m₂ y. holds-then (sound r m₂ (y .fits)) (λ e″ m₃ z.
-          holds record { derived = if-expression (x .derived) (y .derived) (z .derived); used = nodes-then (nodes-then (nodes-then u (x .used)) (y .used)) (z .used); fits = z .fits }))))
+        holds record { derived = if-expression (x .derived) (y .derived) (z .derived); used = nodes-then (nodes-then (nodes-then u (x .used)) (y .used)) (z .used); fits = z .fits }))))
     form-sound a p q n (is-begin {s = s} {ss = ss}) f =
         holds-node entries p n f (λ m u g. holds-then (sound s m g) (λ e m₁ x. holds-then (exprs-sound ss m₁ (x .fits)) (λ es m₂ y.
-          holds record { derived = begin-expression (x .derived) (y .derived); used = nodes-then (nodes-then u (x .used)) (y .used); fits = y .fits })))
+        holds record { derived = begin-expression (x .derived) (y .derived); used = nodes-then (nodes-then u (x .used)) (y .used); fits = y .fits })))
     form-sound a p q n (is-let {a = s} {b = t}) f =
         holds-node entries p n f (λ m u g. holds-then (binding-list-sound s m g) (λ bs m₁ x. holds-then (sound t m₁ (x .fits)) (λ e m₂ y.
-          holds record { derived = made-let (x .derived) (y .derived); used = nodes-then (nodes-then u (x .used)) (y .used); fits = y .fits })))
+        holds record { derived = made-let (x .derived) (y .derived); used = nodes-then (nodes-then u (x .used)) (y .used); fits = y .fits })))
     form-sound a p q n (is-case {s = s} {b = b} {bs = bs}) f =
         holds-node entries p n f (λ m u g. holds-then (sound s m g) (λ e m₁ x. holds-then (branches-sound b bs m₁ (x .fits)) (λ xs m₂ y.
-          holds record { derived = case-expression (x .derived) (y .derived); used = nodes-then (nodes-then u (x .used)) (y .used); fits = y .fits })))
+        holds record { derived = case-expression (x .derived) (y .derived); used = nodes-then (nodes-then u (x .used)) (y .used); fits = y .fits })))
     form-sound a p q n (is-dup {s = s}) f =
         holds-node entries p n f (λ m u g. holds-then (name-sound entries s m g) (λ i m₁ x.
-          holds record { derived = dup-expression (x .derived); used = nodes-then u (x .used); fits = x .fits }))
+        holds record { derived = dup-expression (x .derived); used = nodes-then u (x .used); fits = x .fits }))
     form-sound a p q n (is-apply {s = s} {ss = ss}) f =
         holds-node entries p n f (λ m u g. holds-then (sound s m g) (λ e m₁ x. holds-then (exprs-sound ss m₁ (x .fits)) (λ es m₂ y.
-          holds record { derived = apply-expression (x .derived) (y .derived); used = nodes-then (nodes-then u (x .used)) (y .used); fits = y .fits })))
+        holds record { derived = apply-expression (x .derived) (y .derived); used = nodes-then (nodes-then u (x .used)) (y .used); fits = y .fits })))
 
   pub expr-sound : (d : ℕ) (s : Sexp) (n : Tally) → Fits entries n → Holds (Read (ExprOf s) exprNodes none entries n) (readExpr entries d s n)
   expr-sound zero (atom k p w) n f = atom-sound k p w n f
@@ -281,27 +277,27 @@ module _ (entries : ℕ) where
     bindings-complete no-bindings d le n r = makes record { same = refl; used = used-none }
     bindings-complete (and-binding {p = p} {s₁ = s₁} {s₂ = s₂} {ss = ss} {x = x} {e = e} c a more) d le n r =
         makes-then {Q = SameBinding p x e n}
-          (makes-node entries p n (nodes-room used-none r (omega arith)) (λ m u.
-           makes-then (name-complete m c) (λ i m₁ y.
-           makes-then (expr-complete a d (omega arith) m₁ (nodes-room (nodes-then u (y .used)) r (omega arith))) (λ e m₂ z.
-           makes record { same-place = refl; same-name = y .same; same-expr = z .same; used = nodes-then (nodes-then u (y .used)) (z .used) }))))
-          (λ b m y. makes-then (bindings-complete more d (omega arith) m (nodes-room (y .used) r (omega arith))) (λ bs m₁ z.
-           makes {x = tree.and-binding (b .place) (b .name) (b .expr) bs} record { same = cc (y .same-place, y .same-name, y .same-expr, z .same); used = nodes-then (y .used) (z .used) }))
+        (makes-node entries p n (nodes-room used-none r (omega arith)) (λ m u.
+        makes-then (name-complete m c) (λ i m₁ y.
+        makes-then (expr-complete a d (omega arith) m₁ (nodes-room (nodes-then u (y .used)) r (omega arith))) (λ e m₂ z.
+        makes record { same-place = refl; same-name = y .same; same-expr = z .same; used = nodes-then (nodes-then u (y .used)) (z .used) }))))
+        (λ b m y. makes-then (bindings-complete more d (omega arith) m (nodes-room (y .used) r (omega arith))) (λ bs m₁ z.
+        makes {x = tree.and-binding (b .place) (b .name) (b .expr) bs} record { same = cc (y .same-place, y .same-name, y .same-expr, z .same); used = nodes-then (y .used) (z .used) }))
 
     branches-complete : {s : Sexp} {ss : Sexps} {bs : Branches} → BranchesOf (cons s ss) bs → (d : ℕ) → depths (cons s ss) ≤ d → (n : Tally) → Room entries n (branchesNodes bs) 0 0 0 0 → Makes (Same bs (branchesNodes bs) 0 n) (readBranches entries (readExpr entries d) s ss n)
     branches-complete (last-branch {p = p} {s₁ = s₁} {s₂ = s₂} {x = x} {e = e} c a) d le n r =
         makes-then {Q = SameBranch p x e n}
-          (makes-node entries p n (nodes-room used-none r (omega arith)) (λ m u.
-           makes-then (pattern-complete m c) (λ i m₁ y.
-           makes-then (expr-complete a d (omega arith) m₁ (nodes-room (nodes-then u (y .used)) r (omega arith))) (λ e m₂ z.
-           makes record { same-place = refl; same-pattern = y .same; same-expr = z .same; used = nodes-then (nodes-then u (y .used)) (z .used) }))))
-          (λ b m y. makes {x = tree.last-branch (b .place) (b .pattern) (b .expr)} record { same = cc (y .same-place, y .same-pattern, y .same-expr); used = y .used })
+        (makes-node entries p n (nodes-room used-none r (omega arith)) (λ m u.
+        makes-then (pattern-complete m c) (λ i m₁ y.
+        makes-then (expr-complete a d (omega arith) m₁ (nodes-room (nodes-then u (y .used)) r (omega arith))) (λ e m₂ z.
+        makes record { same-place = refl; same-pattern = y .same; same-expr = z .same; used = nodes-then (nodes-then u (y .used)) (z .used) }))))
+        (λ b m y. makes {x = tree.last-branch (b .place) (b .pattern) (b .expr)} record { same = cc (y .same-place, y .same-pattern, y .same-expr); used = y .used })
     branches-complete (and-branch {ss = nil} c a more) d le n r = elim more [ ]
     branches-complete (and-branch {p = p} {s₁ = s₁} {s₂ = s₂} {ss = cons t ss} {x = x} {e = e} c a more) d le n r =
         makes-then {Q = SameBranch p x e n}
-          (makes-node entries p n (nodes-room used-none r (omega arith)) (λ m u.
-           makes-then (pattern-complete m c) (λ i m₁ y.
-           makes-then (expr-complete a d (omega arith) m₁ (nodes-room (nodes-then u (y .used)) r (omega arith))) (λ e m₂ z.
-           makes record { same-place = refl; same-pattern = y .same; same-expr = z .same; used = nodes-then (nodes-then u (y .used)) (z .used) }))))
-          (λ b m y. makes-then (branches-complete more d (omega arith) m (nodes-room (y .used) r (omega arith))) (λ bs m₁ z.
-           makes {x = tree.and-branch (b .place) (b .pattern) (b .expr) bs} record { same = cc (y .same-place, y .same-pattern, y .same-expr, z .same); used = nodes-then (y .used) (z .used) }))
+        (makes-node entries p n (nodes-room used-none r (omega arith)) (λ m u.
+        makes-then (pattern-complete m c) (λ i m₁ y.
+        makes-then (expr-complete a d (omega arith) m₁ (nodes-room (nodes-then u (y .used)) r (omega arith))) (λ e m₂ z.
+        makes record { same-place = refl; same-pattern = y .same; same-expr = z .same; used = nodes-then (nodes-then u (y .used)) (z .used) }))))
+        (λ b m y. makes-then (branches-complete more d (omega arith) m (nodes-room (y .used) r (omega arith))) (λ bs m₁ z.
+        makes {x = tree.and-branch (b .place) (b .pattern) (b .expr) bs} record { same = cc (y .same-place, y .same-pattern, y .same-expr, z .same); used = nodes-then (y .used) (z .used) }))

@@ -38,7 +38,7 @@ concluded-ok entries ss script (made ds m) (holds h) e =
     let u = h .used in
     let f = h .fits in
     subst (λ script. ScriptOf ss script × Within script entries) same
-      (h .derived, record { nodes = omega arith; entered = omega arith; types = omega arith; bindings = omega arith; datatypes = omega arith; constructors = omega arith; six = h .six })
+    (h .derived, record { nodes = omega arith; entered = omega arith; types = omega arith; bindings = omega arith; datatypes = omega arith; constructors = omega arith; six = h .six })
 
 made-ok : (script : Script) (o : Outcome Script) → Makes (λ y m. y ≡ script) o → concluded o ≡ Ok script
 made-ok script (made ds m) (makes e) = ap Ok e
@@ -47,7 +47,7 @@ made-ok script (refused r) h = elim h [ ]
 forms-read : (entries : ℕ) (ss : Sexps) (script : Script) → ScriptOf ss script → depths ss ≤ 64 → Within script entries → concluded (readDefinitions entries ss fresh) ≡ Ok script
 forms-read entries ss script d le w =
     made-ok script (readDefinitions entries ss fresh)
-      (script-complete entries d le (w .six) fresh record { for-nodes = omega arith; for-entries = omega arith; for-types = omega arith; for-bindings = omega arith; for-datatypes = omega arith; for-constructors = omega arith })
+    (script-complete entries d le (w .six) fresh record { for-nodes = omega arith; for-entries = omega arith; for-types = omega arith; for-bindings = omega arith; for-datatypes = omega arith; for-constructors = omega arith })
 
 sound : (text : List ℕ) (entries : ℕ) (script : Script) → reading text entries ≡ Ok script → Derives text script × Within script entries
 sound text entries script e = go (scan text) refl e

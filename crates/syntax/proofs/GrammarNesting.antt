@@ -55,8 +55,8 @@ nested-only ts ss n = sym (ap outermost (ap gathered (sym (n .tokens)) ∙ gathe
 data Gathered : List Bracket → Level → List Lexeme → Type 0 where
   at-top : {ss : Sexps} {ts : List Lexeme} → AllAtoms ss → depths ss ≤ 64 → flats ss [] ≡ ts → Gathered [] (outside ss) ts
   within : {shape : Bracket} {opened : List Bracket} {ss : Sexps} {q : ℕ} {around : Level} {us ts : List Lexeme}
-    → AllAtoms ss → depths ss + suc (length opened) ≤ 64 → Gathered opened around us
-    → flats ss (lexeme (Close shape) q (closing shape) ∷ us) ≡ ts → Gathered (shape ∷ opened) (inside ss shape q around) ts
+      → AllAtoms ss → depths ss + suc (length opened) ≤ 64 → Gathered opened around us
+      → flats ss (lexeme (Close shape) q (closing shape) ∷ us) ≡ ts → Gathered (shape ∷ opened) (inside ss shape q around) ts
 
 put-form : {opened : List Bracket} {l : Level} {ts : List Lexeme} (s : Sexp) → Gathered opened l ts → Atoms s → depth s + length opened ≤ 64 → Gathered opened (put s l) (flat s ts)
 put-form s (at-top {ss = ss} a d e) n le = at-top (n, a) (max-le (omega arith) d) (ap (flat s) e)
@@ -90,7 +90,7 @@ gathers-paired : {opened : List Bracket} {ts : List Lexeme} → Paired opened ts
 gathers-paired closed sp le = at-top tt (omega arith) refl
 gathers-paired (opens {opened = o} {ts = ts} t shape e few p) (also s sp) le =
     subst (λ k. Gathered o (gather t k (gathered ts)) (t ∷ ts)) (sym e)
-      (opened (gathered ts) (gathers-paired p sp (omega arith)) (same-token t (Open shape) (opening shape) e (open-bytes shape (t .bytes) (subst (λ k. Spelt k (t .bytes)) e s))))
+    (opened (gathered ts) (gathers-paired p sp (omega arith)) (same-token t (Open shape) (opening shape) e (open-bytes shape (t .bytes) (subst (λ k. Spelt k (t .bytes)) e s))))
   where
     opened : (l : Level) → Gathered (shape ∷ o) l ts → lexeme (Open shape) (t .place) (opening shape) ≡ t → Gathered o (openLevel shape (t .place) l) (t ∷ ts)
     opened (outside ss) g h = elim g [ ]
@@ -100,10 +100,10 @@ gathers-paired (opens {opened = o} {ts = ts} t shape e few p) (also s sp) le =
 gathers-paired (closes {opened = o} {ts = ts} t shape e p) (also s sp) le =
     let h = same-token t (Close shape) (closing shape) e (close-bytes shape (t .bytes) (subst (λ k. Spelt k (t .bytes)) e s)) in
     subst (λ k. Gathered (shape ∷ o) (gather t k (gathered ts)) (t ∷ ts)) (sym e)
-      (within tt (omega arith) (gathers-paired p sp (omega arith)) (ap (λ x. x ∷ ts) h))
+    (within tt (omega arith) (gathers-paired p sp (omega arith)) (ap (λ x. x ∷ ts) h))
 gathers-paired (other {opened = o} {ts = ts} t n p) (also s sp) le =
     subst (λ l. Gathered o l (t ∷ ts)) (sym (gather-atom (t .kind) (t .place) (t .bytes) (gathered ts) n))
-      (put-form (atom (t .kind) (t .place) (t .bytes)) (gathers-paired p sp le) n (omega arith))
+    (put-form (atom (t .kind) (t .place) (t .bytes)) (gathers-paired p sp le) n (omega arith))
 
 outermost-nested : (l : Level) (ts : List Lexeme) → Gathered [] l ts → Nested ts (outermost l) × (depths (outermost l) ≤ 64)
 outermost-nested (outside ss) ts (at-top a d e) = (record { tokens = e; atoms = a }, d)

@@ -49,7 +49,7 @@ types-then u v = record { more-nodes = omega arith; more-types = omega arith; mo
 
 -- room that is left
 pub room : {entries : ℕ} {n m : Tally} {a b c d e a′ b′ c′ d′ e′ a″ b″ c″ d″ e″ : ℕ} → Used n m a b c d e → Room entries n a″ b″ c″ d″ e″
-  → a + a′ ≤ a″ → b + b′ ≤ b″ → c + c′ ≤ c″ → d + d′ ≤ d″ → e + e′ ≤ e″ → Room entries m a′ b′ c′ d′ e′
+    → a + a′ ≤ a″ → b + b′ ≤ b″ → c + c′ ≤ c″ → d + d′ ≤ d″ → e + e′ ≤ e″ → Room entries m a′ b′ c′ d′ e′
 room u r p q s t v = record { for-nodes = omega arith; for-entries = omega arith; for-types = omega arith; for-bindings = omega arith; for-datatypes = omega arith; for-constructors = omega arith }
 
 pub nodes-room : {entries : ℕ} {n m : Tally} {a b c : ℕ} → Used n m a 0 0 0 0 → Room entries n c 0 0 0 0 → a + b ≤ c → Room entries m b 0 0 0 0
@@ -79,7 +79,7 @@ pub data Holds {X : Type 0} (Q : X → Tally → Type 0) : Outcome X → Type 0 
   holds : {x : X} {n : Tally} → Q x n → Holds Q (made x n)
 
 pub holds-then : {X Y : Type 0} {Q : X → Tally → Type 0} {R : Y → Tally → Type 0} {o : Outcome X} {f : X → Tally → Outcome Y}
-  → Holds Q o → ((x : X) (n : Tally) → Q x n → Holds R (f x n)) → Holds R (andThen o f)
+    → Holds Q o → ((x : X) (n : Tally) → Q x n → Holds R (f x n)) → Holds R (andThen o f)
 holds-then not-made g = not-made
 holds-then (holds q) g = g _ _ q
 
@@ -92,7 +92,7 @@ pub data Makes {X : Type 0} (Q : X → Tally → Type 0) : Outcome X → Type 0 
   makes : {x : X} {n : Tally} → Q x n → Makes Q (made x n)
 
 pub makes-then : {X Y : Type 0} {Q : X → Tally → Type 0} {R : Y → Tally → Type 0} {o : Outcome X} {f : X → Tally → Outcome Y}
-  → Makes Q o → ((x : X) (n : Tally) → Q x n → Makes R (f x n)) → Makes R (andThen o f)
+    → Makes Q o → ((x : X) (n : Tally) → Q x n → Makes R (f x n)) → Makes R (andThen o f)
 makes-then (makes q) g = g _ _ q
 
 -- The tests of the limits.
@@ -140,6 +140,7 @@ module _ {X : Type 0} {R : X → Tally → Type 0} (entries : ℕ) (p : ℕ) (n 
       later : (t : Bool) → Holds R (cond t (refused (refusedAt refusal.NodeList p)) (overLimit p))
       later true = not-made
       later false = not-made
+
       go : (t : Bool) → ltb (n .nodes) (min entries 4096) ≡ t → Holds R (cond t (next (oneNode n)) (cond (ltb entries 4096) (refused (refusedAt refusal.NodeList p)) (overLimit p)))
       go true e =
           let h = ltb-true (n .nodes) (min entries 4096) e in

@@ -21,9 +21,6 @@ use Rattle.text.proofs.GrammarLaws.{listed, scan-lawful}
 use Rattle.text.proofs.GrammarTokens.{spelt-front, token-no-gap}
 use Rattle.text.proofs.TokenLaws.{over-separators, continued, lead}
 
-clash : _≡_ {A = ℕ} 0 1 → ⊥
-clash z = omega arith
-
 -- tokens that cut the text are those that the definitions list
 lists : {i : ℕ} {s : List ℕ} {ts : List Lexeme} → Cut i s ts → lexed 0 i s ≡ listed ts
 lists {i} {s} (last o gap) =

@@ -6,6 +6,7 @@ use Prim.Native.Nat.{ℕ, zero, suc, _+_, _≤_}
 use native.Mathlib.Omega.{arith}
 use borrow.Author.Tests.{lt-ltb, ltb-true}
 use lib.Dec.{ltb}
+use Rattle.std.specs.declared.option.Option.{Option}
 use Rattle.std.specs.declared.option.Option.the-variants.{Some}
 use Rattle.text.specs.declared.bracket.Bracket.{Bracket}
 use Rattle.text.specs.declared.keyword.Keyword.{Keyword}
@@ -19,10 +20,8 @@ use Rattle.syntax.specs.Reading.{Tally, Outcome, made, readName, atomType, typ
 use Rattle.syntax.specs.Sexps.{Sexp, atom, list, Sexps, nil, cons, place, depth, depths}
 use Rattle.syntax.specs.Trees as tree
 use Rattle.syntax.specs.Trees.{Ident, TypeExpr, TypeExprs, PatternPart, Pattern}
+use Rattle.syntax.proofs.GrammarKeys.{by-key}
 use Rattle.syntax.proofs.GrammarOutcomes.{Read, Same, none, used-none, used-then, types-then, Room, Fits, types-room, Holds, not-made, holds, holds-then, holds-so, Makes, makes, makes-then, holds-type, makes-type}
-
-clash : _≡_ {A = ℕ} 0 1 → ⊥
-clash z = omega arith
 
 -- what stands in brackets of either shape
 pub data Listed (P : Sexps → Type 0) : Sexp → Type 0 where
@@ -65,30 +64,11 @@ arrow-view (cons (atom (kind.Open b) p w) es) = no-arrow
 arrow-view (cons (atom (kind.Close b) p w) es) = no-arrow
 arrow-view (cons (atom kind.Symbol p w) es) = no-arrow
 arrow-view (cons (atom (kind.Integer z) p w) es) = no-arrow
-arrow-view (cons (atom (kind.Keyword k) p w) es) = go k es
+arrow-view (cons (atom (kind.Keyword k) p w) es) = by-key (λ k. ArrowView (cons (word k p w) es)) keyword.Arrow k _ _ (go (two-view es)) no-arrow
   where
-    go : (k : Keyword) (es : Sexps) → ArrowView (cons (atom (kind.Keyword k) p w) es) (arrowOf (cons (atom (kind.Keyword k) p w) es))
-    go keyword.Arrow nil = no-arrow
-    go keyword.Arrow (cons a nil) = no-arrow
-    go keyword.Arrow (cons a (cons b nil)) = is-arrow
-    go keyword.Arrow (cons a (cons b (cons c rest))) = no-arrow
-    go keyword.Colon es = no-arrow
-    go keyword.Val es = no-arrow
-    go keyword.Define es = no-arrow
-    go keyword.Datatype es = no-arrow
-    go keyword.Use es = no-arrow
-    go keyword.If es = no-arrow
-    go keyword.Case es = no-arrow
-    go keyword.Begin es = no-arrow
-    go keyword.Let es = no-arrow
-    go keyword.Dup es = no-arrow
-    go keyword.Int es = no-arrow
-    go keyword.Bool es = no-arrow
-    go keyword.Sym es = no-arrow
-    go keyword.Unit es = no-arrow
-    go keyword.True es = no-arrow
-    go keyword.False es = no-arrow
-    go keyword.Wildcard es = no-arrow
+    go : {es : Sexps} {v : Two} → TwoView es v → ArrowView (cons (word keyword.Arrow p w) es) v
+    go is-two = is-arrow
+    go other = no-arrow
 
 abbrev TypeRead : ℕ → Sexp → Tally → TypeExpr → Tally → Type 0
 TypeRead entries s = Read (λ t. TypeOf s t × SixInType t) none typeCount entries
@@ -101,7 +81,7 @@ abbrev pub TypeListRead : ℕ → Sexp → Tally → TypeExprs → Tally → Typ
 TypeListRead entries s = Read (λ ts. Listed (λ ss. TypesOf ss ts) s × (typesLength ts ≤ 6) × SixInTypes ts) none typesCount entries
 
 made-arrow : {a : Bracket} {p q i : ℕ} {w : List ℕ} {s r : Sexp} {ts : TypeExprs} {t : TypeExpr} → Listed (λ ss. TypesOf ss ts) s → TypeOf r t
-  → TypeOf (list a p (cons (word keyword.Arrow i w) (cons s (cons r nil))) q) (tree.function-type p ts t)
+    → TypeOf (list a p (cons (word keyword.Arrow i w) (cons s (cons r nil))) q) (tree.function-type p ts t)
 made-arrow (listed h) k = function-type h k
 
 module _ (entries : ℕ) where
@@ -114,27 +94,14 @@ module _ (entries : ℕ) where
   atom-type-sound (kind.Close b) p w n f = not-made
   atom-type-sound kind.Symbol p w n f = not-made
   atom-type-sound (kind.Integer z) p w n f = not-made
-  atom-type-sound (kind.Keyword k) p w n f = go k
+  atom-type-sound (kind.Keyword k) p w n f =
+      by-key reads keyword.Int k _ _ (one-type _ _ p n f int-type tt refl)
+      (by-key reads keyword.Bool k _ _ (one-type _ _ p n f bool-type tt refl)
+      (by-key reads keyword.Sym k _ _ (one-type _ _ p n f sym-type tt refl)
+      (by-key reads keyword.Unit k _ _ (one-type _ _ p n f unit-type tt refl) not-made)))
     where
-      go : (k : Keyword) → Holds (TypeRead entries (atom (kind.Keyword k) p w) n) (typeAtom p (atomType (kind.Keyword k) p w) n)
-      go keyword.Int = one-type _ _ p n f int-type tt refl
-      go keyword.Bool = one-type _ _ p n f bool-type tt refl
-      go keyword.Sym = one-type _ _ p n f sym-type tt refl
-      go keyword.Unit = one-type _ _ p n f unit-type tt refl
-      go keyword.Arrow = not-made
-      go keyword.Colon = not-made
-      go keyword.Val = not-made
-      go keyword.Define = not-made
-      go keyword.Datatype = not-made
-      go keyword.Use = not-made
-      go keyword.If = not-made
-      go keyword.Case = not-made
-      go keyword.Begin = not-made
-      go keyword.Let = not-made
-      go keyword.Dup = not-made
-      go keyword.True = not-made
-      go keyword.False = not-made
-      go keyword.Wildcard = not-made
+      reads : Keyword → Option TypeExpr → Type 0
+      reads k t = Holds (TypeRead entries (word k p w) n) (typeAtom p t n)
 
   module _ (read : Sexp → Tally → Outcome TypeExpr) (sound : (s : Sexp) (n : Tally) → Fits entries n → Holds (TypeRead entries s n) (read s n)) where
     types-sound : (k : ℕ) (ss : Sexps) (n : Tally) → k ≤ 6 → Fits entries n → Holds (TypesRead entries k ss n) (readTypes read k ss n)
@@ -144,13 +111,14 @@ module _ (entries : ℕ) where
         beyond : (t : Bool) → Holds (TypesRead entries k (cons s ss) n) (cond t (overLimit (place s)) (wrong (place s)))
         beyond true = not-made
         beyond false = not-made
+
         go : (t : Bool) → ltb k 6 ≡ t → ((n : Tally) → k + 1 ≤ 6 → Fits entries n → Holds (TypesRead entries (k + 1) ss n) (readTypes read (k + 1) ss n))
-          → Holds (TypesRead entries k (cons s ss) n) (cond t (andThen (read s n) (λ t n. andThen (readTypes read (k + 1) ss n) (λ ts n. made (tree.and-type t ts) n))) (cond (typeShaped s) (overLimit (place s)) (wrong (place s))))
+            → Holds (TypesRead entries k (cons s ss) n) (cond t (andThen (read s n) (λ t n. andThen (readTypes read (k + 1) ss n) (λ ts n. made (tree.and-type t ts) n))) (cond (typeShaped s) (overLimit (place s)) (wrong (place s))))
         go false e more = beyond (typeShaped s)
         go true e more =
             let lt = ltb-true k 6 e in
             holds-then (sound s n f) (λ t m a. holds-then (more m (omega arith) (a .fits)) (λ ts o b.
-              holds record { derived = (and-type (a .derived .0) (b .derived .0), omega (arith, b .derived .1), (a .derived .1, b .derived .2)); used = types-then (a .used) (b .used); fits = b .fits }))
+            holds record { derived = (and-type (a .derived .0) (b .derived .0), omega (arith, b .derived .1), (a .derived .1, b .derived .2)); used = types-then (a .used) (b .used); fits = b .fits }))
 
     pub type-list-sound : (s : Sexp) (n : Tally) → Fits entries n → Holds (TypeListRead entries s n) (readTypeList read s n)
     type-list-sound (atom k p w) n f = not-made
@@ -160,14 +128,13 @@ module _ (entries : ℕ) where
     arrow-sound a p q n no-arrow f = not-made
     arrow-sound a p q n (is-arrow {a = s} {b = r}) f =
         holds-type entries p n f (λ m u g. holds-then (type-list-sound s m g) (λ ts o h. holds-then (sound r o (h .fits)) (λ t o′ k.
-          holds record { derived = (made-arrow (h .derived .0) (k .derived .0), (h .derived .1, h .derived .2, k .derived .1)); used = types-then (types-then u (h .used)) (k .used); fits = k .fits })))
+        holds record { derived = (made-arrow (h .derived .0) (k .derived .0), (h .derived .1, h .derived .2, k .derived .1)); used = types-then (types-then u (h .used)) (k .used); fits = k .fits })))
 
   pub type-sound : (d : ℕ) (s : Sexp) (n : Tally) → Fits entries n → Holds (TypeRead entries s n) (readType d s n)
   type-sound zero (atom k p w) n f = atom-type-sound k p w n f
   type-sound (suc d) (atom k p w) n f = atom-type-sound k p w n f
   type-sound zero (list a p ss q) n f = not-made
   type-sound (suc d) (list a p ss q) n f = arrow-sound (readType d) (type-sound d) a p q n (arrow-view ss) f
-
 
 -- a type expression that the grammar derives is read
 module _ (entries : ℕ) where
@@ -184,17 +151,17 @@ module _ (entries : ℕ) where
     type-complete (function-type h k) zero le x n r = absurd (omega arith)
     type-complete (function-type {p = p} {ss = ss} {s = s} h k) (suc d) le x n r =
         makes-type entries p n (types-room used-none r (omega arith)) (λ m u.
-          makes-then (types-complete h d 0 (omega arith) (omega (arith, x .0)) (x .1) m (types-room u r (omega arith))) (λ ts m₁ a.
-          makes-then (type-complete k d (omega arith) (x .2) m₁ (types-room (types-then u (a .used)) r (omega arith))) (λ t m₂ b.
-          makes {x = tree.function-type p ts t} record { same = cc (a .same, b .same); used = types-then (types-then u (a .used)) (b .used) })))
+        makes-then (types-complete h d 0 (omega arith) (omega (arith, x .0)) (x .1) m (types-room u r (omega arith))) (λ ts m₁ a.
+        makes-then (type-complete k d (omega arith) (x .2) m₁ (types-room (types-then u (a .used)) r (omega arith))) (λ t m₂ b.
+        makes {x = tree.function-type p ts t} record { same = cc (a .same, b .same); used = types-then (types-then u (a .used)) (b .used) })))
 
     pub types-complete : {ss : Sexps} {ts : TypeExprs} → TypesOf ss ts → (d k : ℕ) → depths ss ≤ d → k + typesLength ts ≤ 6 → SixInTypes ts → (n : Tally) → Room entries n 0 (typesCount ts) 0 0 0 → Makes (Same ts 0 (typesCount ts) n) (readTypes (readType d) k ss n)
     types-complete no-types d k le few x n r = makes record { same = refl; used = used-none }
     types-complete (and-type {s = s} {ss = ss} {ts = ts} h more) d k le few x n r =
         rw (lt-ltb k 6 (omega arith))
-          (makes-then (type-complete h d (omega arith) (x .0) n (types-room used-none r (omega arith))) (λ t m a.
-           makes-then (types-complete more d (k + 1) (omega arith) (omega arith) (x .1) m (types-room (a .used) r (omega arith))) (λ ts m₁ b.
-           makes {x = tree.and-type t ts} record { same = cc (a .same, b .same); used = types-then (a .used) (b .used) })))
+        (makes-then (type-complete h d (omega arith) (x .0) n (types-room used-none r (omega arith))) (λ t m a.
+        makes-then (types-complete more d (k + 1) (omega arith) (omega arith) (x .1) m (types-room (a .used) r (omega arith))) (λ ts m₁ b.
+        makes {x = tree.and-type t ts} record { same = cc (a .same, b .same); used = types-then (a .used) (b .used) })))
 
 -- Patterns.
 part-sound : (entries : ℕ) (s : Sexp) (n : Tally) → Fits entries n → Holds (Read (PartOf s) none none entries n) (readPart s n)
@@ -204,27 +171,8 @@ part-sound entries (atom (kind.Open b) p w) n f = not-made
 part-sound entries (atom (kind.Close b) p w) n f = not-made
 part-sound entries (atom kind.Symbol p w) n f = not-made
 part-sound entries (atom (kind.Integer z) p w) n f = not-made
-part-sound entries (atom (kind.Keyword k) p w) n f = go k
-  where
-    go : (k : Keyword) → Holds (Read (PartOf (word k p w)) none none entries n) (readPart (word k p w) n)
-    go keyword.Wildcard = holds record { derived = skipped; used = used-none; fits = f }
-    go keyword.Arrow = not-made
-    go keyword.Colon = not-made
-    go keyword.Val = not-made
-    go keyword.Define = not-made
-    go keyword.Datatype = not-made
-    go keyword.Use = not-made
-    go keyword.If = not-made
-    go keyword.Case = not-made
-    go keyword.Begin = not-made
-    go keyword.Let = not-made
-    go keyword.Dup = not-made
-    go keyword.Int = not-made
-    go keyword.Bool = not-made
-    go keyword.Sym = not-made
-    go keyword.Unit = not-made
-    go keyword.True = not-made
-    go keyword.False = not-made
+part-sound entries (atom (kind.Keyword k) p w) n f =
+    by-key (λ k. Holds (Read (PartOf (word k p w)) none none entries n)) keyword.Wildcard k _ _ (holds record { derived = skipped; used = used-none; fits = f }) not-made
 
 parts-sound : (entries : ℕ) (ss : Sexps) (n : Tally) → Fits entries n → Holds (Read (PartsOf ss) none none entries n) (readParts ss n)
 parts-sound entries nil n f = holds record { derived = no-parts; used = used-none; fits = f }
@@ -240,27 +188,8 @@ pattern-sound entries (atom (kind.Open b) p w) n f = not-made
 pattern-sound entries (atom (kind.Close b) p w) n f = not-made
 pattern-sound entries (atom kind.Symbol p w) n f = not-made
 pattern-sound entries (atom (kind.Integer z) p w) n f = not-made
-pattern-sound entries (atom (kind.Keyword k) p w) n f = go k
-  where
-    go : (k : Keyword) → Holds (Read (PatternOf (word k p w)) none none entries n) (readPattern (word k p w) n)
-    go keyword.Wildcard = holds record { derived = wildcard; used = used-none; fits = f }
-    go keyword.Arrow = not-made
-    go keyword.Colon = not-made
-    go keyword.Val = not-made
-    go keyword.Define = not-made
-    go keyword.Datatype = not-made
-    go keyword.Use = not-made
-    go keyword.If = not-made
-    go keyword.Case = not-made
-    go keyword.Begin = not-made
-    go keyword.Let = not-made
-    go keyword.Dup = not-made
-    go keyword.Int = not-made
-    go keyword.Bool = not-made
-    go keyword.Sym = not-made
-    go keyword.Unit = not-made
-    go keyword.True = not-made
-    go keyword.False = not-made
+pattern-sound entries (atom (kind.Keyword k) p w) n f =
+    by-key (λ k. Holds (Read (PatternOf (word k p w)) none none entries n)) keyword.Wildcard k _ _ (holds record { derived = wildcard; used = used-none; fits = f }) not-made
 
 part-complete : {s : Sexp} {x : PatternPart} (n : Tally) → PartOf s x → Makes (Same x 0 0 n) (readPart s n)
 part-complete n (bound e) = rw e (makes record { same = refl; used = used-none })

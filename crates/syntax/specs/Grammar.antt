@@ -44,8 +44,8 @@ mutual
     datatype : {s : Sexp} {x : Ident} → NameOf s x → TypeOf s (tree.datatype x)
     -- (-> ({ type-expression }) type-expression)
     function-type : {a b : Bracket} {p q p₁ q₁ i : ℕ} {w : List ℕ} {ss : Sexps} {s : Sexp} {ts : TypeExprs} {t : TypeExpr}
-      → TypesOf ss ts → TypeOf s t
-      → TypeOf (list a p (cons (word keyword.Arrow i w) (cons (list b p₁ ss q₁) (cons s nil))) q) (tree.function-type p ts t)
+        → TypesOf ss ts → TypeOf s t
+        → TypeOf (list a p (cons (word keyword.Arrow i w) (cons (list b p₁ ss q₁) (cons s nil))) q) (tree.function-type p ts t)
 
   -- { type-expression }
   pub data TypesOf : Sexps → TypeExprs → Type 0 where
@@ -69,7 +69,7 @@ pub data PatternOf : Sexp → Pattern → Type 0 where
   wildcard : {p : ℕ} {w : List ℕ} → PatternOf (word keyword.Wildcard p w) (tree.wildcard p)
   -- (name { name | _ })
   constructor : {a : Bracket} {p q : ℕ} {s : Sexp} {ss : Sexps} {c : Ident} {xs : List PatternPart}
-    → NameOf s c → PartsOf ss xs → PatternOf (list a p (cons s ss) q) (tree.constructor p c xs)
+      → NameOf s c → PartsOf ss xs → PatternOf (list a p (cons s ss) q) (tree.constructor p c xs)
 
 -- expr
 mutual
@@ -88,26 +88,26 @@ mutual
     name-expression : {p : ℕ} {w : List ℕ} → ExprOf (atom kind.Name p w) (tree.name p w)
     -- (if expr expr expr)
     if-expression : {a : Bracket} {p q i : ℕ} {w : List ℕ} {s₁ s₂ s₃ : Sexp} {e₁ e₂ e₃ : Expr}
-      → ExprOf s₁ e₁ → ExprOf s₂ e₂ → ExprOf s₃ e₃
-      → ExprOf (list a p (cons (word keyword.If i w) (cons s₁ (cons s₂ (cons s₃ nil)))) q) (tree.if-expr p e₁ e₂ e₃)
+        → ExprOf s₁ e₁ → ExprOf s₂ e₂ → ExprOf s₃ e₃
+        → ExprOf (list a p (cons (word keyword.If i w) (cons s₁ (cons s₂ (cons s₃ nil)))) q) (tree.if-expr p e₁ e₂ e₃)
     -- (begin expr { expr })
     begin-expression : {a : Bracket} {p q i : ℕ} {w : List ℕ} {s : Sexp} {ss : Sexps} {e : Expr} {es : Exprs}
-      → ExprOf s e → ExprsOf ss es
-      → ExprOf (list a p (cons (word keyword.Begin i w) (cons s ss)) q) (tree.begin-expr p e es)
+        → ExprOf s e → ExprsOf ss es
+        → ExprOf (list a p (cons (word keyword.Begin i w) (cons s ss)) q) (tree.begin-expr p e es)
     -- (let ({ let-binding }) expr)
     let-expression : {a b : Bracket} {p q p₁ q₁ i : ℕ} {w : List ℕ} {ss : Sexps} {s : Sexp} {bs : Bindings} {e : Expr}
-      → BindingsOf ss bs → ExprOf s e
-      → ExprOf (list a p (cons (word keyword.Let i w) (cons (list b p₁ ss q₁) (cons s nil))) q) (tree.let-expr p bs e)
+        → BindingsOf ss bs → ExprOf s e
+        → ExprOf (list a p (cons (word keyword.Let i w) (cons (list b p₁ ss q₁) (cons s nil))) q) (tree.let-expr p bs e)
     -- (case expr case-branch { case-branch })
     case-expression : {a : Bracket} {p q i : ℕ} {w : List ℕ} {s : Sexp} {ss : Sexps} {e : Expr} {bs : Branches}
-      → ExprOf s e → BranchesOf ss bs
-      → ExprOf (list a p (cons (word keyword.Case i w) (cons s ss)) q) (tree.case-expr p e bs)
+        → ExprOf s e → BranchesOf ss bs
+        → ExprOf (list a p (cons (word keyword.Case i w) (cons s ss)) q) (tree.case-expr p e bs)
     -- (dup name)
     dup-expression : {a : Bracket} {p q i : ℕ} {w : List ℕ} {s : Sexp} {x : Ident}
-      → NameOf s x → ExprOf (list a p (cons (word keyword.Dup i w) (cons s nil)) q) (tree.dup-expr p x)
+        → NameOf s x → ExprOf (list a p (cons (word keyword.Dup i w) (cons s nil)) q) (tree.dup-expr p x)
     -- (expr { expr })
     apply-expression : {a : Bracket} {p q : ℕ} {s : Sexp} {ss : Sexps} {e : Expr} {es : Exprs}
-      → ExprOf s e → ExprsOf ss es → ExprOf (list a p (cons s ss) q) (tree.apply-expr p e es)
+        → ExprOf s e → ExprsOf ss es → ExprOf (list a p (cons s ss) q) (tree.apply-expr p e es)
 
   -- { expr }
   pub data ExprsOf : Sexps → Exprs → Type 0 where
@@ -118,23 +118,23 @@ mutual
   pub data BindingsOf : Sexps → Bindings → Type 0 where
     no-bindings : BindingsOf nil tree.no-bindings
     and-binding : {a : Bracket} {p q : ℕ} {s₁ s₂ : Sexp} {ss : Sexps} {x : Ident} {e : Expr} {bs : Bindings}
-      → NameOf s₁ x → ExprOf s₂ e → BindingsOf ss bs
-      → BindingsOf (cons (list a p (cons s₁ (cons s₂ nil)) q) ss) (tree.and-binding p x e bs)
+        → NameOf s₁ x → ExprOf s₂ e → BindingsOf ss bs
+        → BindingsOf (cons (list a p (cons s₁ (cons s₂ nil)) q) ss) (tree.and-binding p x e bs)
 
   -- case-branch { case-branch }, each (pattern expr)
   pub data BranchesOf : Sexps → Branches → Type 0 where
     last-branch : {a : Bracket} {p q : ℕ} {s₁ s₂ : Sexp} {x : Pattern} {e : Expr}
-      → PatternOf s₁ x → ExprOf s₂ e
-      → BranchesOf (cons (list a p (cons s₁ (cons s₂ nil)) q) nil) (tree.last-branch p x e)
+        → PatternOf s₁ x → ExprOf s₂ e
+        → BranchesOf (cons (list a p (cons s₁ (cons s₂ nil)) q) nil) (tree.last-branch p x e)
     and-branch : {a : Bracket} {p q : ℕ} {s₁ s₂ : Sexp} {ss : Sexps} {x : Pattern} {e : Expr} {bs : Branches}
-      → PatternOf s₁ x → ExprOf s₂ e → BranchesOf ss bs
-      → BranchesOf (cons (list a p (cons s₁ (cons s₂ nil)) q) ss) (tree.and-branch p x e bs)
+        → PatternOf s₁ x → ExprOf s₂ e → BranchesOf ss bs
+        → BranchesOf (cons (list a p (cons s₁ (cons s₂ nil)) q) ss) (tree.and-branch p x e bs)
 
 -- variant-constructor-definition: (name ({ type-expression }))
 pub data ConstructorOf : Sexp → Constructor → Type 0 where
   constructor-definition : {a b : Bracket} {p q p₁ q₁ : ℕ} {s : Sexp} {ss : Sexps} {c : Constructor}
-    → c .place ≡ p → NameOf s (c .name) → TypesOf ss (c .fields)
-    → ConstructorOf (list a p (cons s (cons (list b p₁ ss q₁) nil)) q) c
+      → c .place ≡ p → NameOf s (c .name) → TypesOf ss (c .fields)
+      → ConstructorOf (list a p (cons s (cons (list b p₁ ss q₁) nil)) q) c
 
 pub data ConstructorsOf : Sexps → List Constructor → Type 0 where
   no-constructors : ConstructorsOf nil []
@@ -149,20 +149,20 @@ pub data NamesOf : Sexps → List Ident → Type 0 where
 pub data DefinitionOf : Sexp → Definition → Type 0 where
   -- (datatype name ({ variant-constructor-definition }))
   datatype-definition : {a b : Bracket} {p q p₁ q₁ i : ℕ} {w : List ℕ} {s : Sexp} {ss : Sexps} {x : Ident} {cs : List Constructor}
-    → NameOf s x → ConstructorsOf ss cs
-    → DefinitionOf (list a p (cons (word keyword.Datatype i w) (cons s (cons (list b p₁ ss q₁) nil))) q) (tree.datatype-definition p x cs)
+      → NameOf s x → ConstructorsOf ss cs
+      → DefinitionOf (list a p (cons (word keyword.Datatype i w) (cons s (cons (list b p₁ ss q₁) nil))) q) (tree.datatype-definition p x cs)
   -- (: name type-expression)
   type-annotation : {a : Bracket} {p q i : ℕ} {w : List ℕ} {s₁ s₂ : Sexp} {x : Ident} {t : TypeExpr}
-    → NameOf s₁ x → TypeOf s₂ t
-    → DefinitionOf (list a p (cons (word keyword.Colon i w) (cons s₁ (cons s₂ nil))) q) (tree.type-annotation p x t)
+      → NameOf s₁ x → TypeOf s₂ t
+      → DefinitionOf (list a p (cons (word keyword.Colon i w) (cons s₁ (cons s₂ nil))) q) (tree.type-annotation p x t)
   -- (define name ({ name }) expr)
   function-definition : {a b : Bracket} {p q p₁ q₁ i : ℕ} {w : List ℕ} {s₁ s₂ : Sexp} {ss : Sexps} {x : Ident} {xs : List Ident} {e : Expr}
-    → NameOf s₁ x → NamesOf ss xs → ExprOf s₂ e
-    → DefinitionOf (list a p (cons (word keyword.Define i w) (cons s₁ (cons (list b p₁ ss q₁) (cons s₂ nil)))) q) (tree.function-definition p x xs e)
+      → NameOf s₁ x → NamesOf ss xs → ExprOf s₂ e
+      → DefinitionOf (list a p (cons (word keyword.Define i w) (cons s₁ (cons (list b p₁ ss q₁) (cons s₂ nil)))) q) (tree.function-definition p x xs e)
   -- (val name expr)
   val-binding : {a : Bracket} {p q i : ℕ} {w : List ℕ} {s₁ s₂ : Sexp} {x : Ident} {e : Expr}
-    → NameOf s₁ x → ExprOf s₂ e
-    → DefinitionOf (list a p (cons (word keyword.Val i w) (cons s₁ (cons s₂ nil))) q) (tree.val-binding p x e)
+      → NameOf s₁ x → ExprOf s₂ e
+      → DefinitionOf (list a p (cons (word keyword.Val i w) (cons s₁ (cons s₂ nil))) q) (tree.val-binding p x e)
 
 -- program: { def }
 pub data ScriptOf : Sexps → Script → Type 0 where
