@@ -3,3 +3,11 @@ pub mod FormLaws
 pub mod AtomLaws
 pub mod RowLaws
 pub mod LookLaws
+pub mod GrammarNesting
+pub mod GrammarKeys
+pub mod GrammarOutcomes
+pub mod GrammarTypes
+pub mod GrammarExprs
+pub mod GrammarDefinitions
+pub mod GrammarOnly
+pub mod GrammarLaws

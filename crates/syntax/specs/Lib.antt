@@ -2,6 +2,9 @@ pub mod Trees
 pub mod Sexps
 pub mod Forms
 pub mod Reading
+pub mod Grammar
+pub mod Limits
+pub mod Laws
 pub mod Looks
 pub mod Surveys
 pub mod Kinds

@@ -177,7 +177,7 @@ balances end (other {opened = o} {ts = ts} t n p) = nests t o o end ts (aside (t
     aside kind.Name n = refl
 
 -- The pass over a text answers exactly the tokens of the grammar.
-scan-tokens : (text : List ℕ) (ts : List Lexeme) → scan text ≡ Ok ts → Tokens text ts
+pub scan-tokens : (text : List ℕ) (ts : List Lexeme) → scan text ≡ Ok ts → Tokens text ts
 scan-tokens text ts e = go (leb (length text) 65535) refl e
   where
     go : (v : Bool) → leb (length text) 65535 ≡ v → _≡_ {A = Result (List Lexeme) Refused} (cond v (balanced (length text) [] (lexedFrom text 0)) (Err (refusedAt refusal.Limit 65535))) (Ok ts) → Tokens text ts
@@ -186,7 +186,7 @@ scan-tokens text ts e = go (leb (length text) 65535) refl e
         record { short = leb-true (length text) 65535 b; cut = cuts ts 0 text (p .0); paired = p .1 }
     go false b h = absurd (clash cc)
 
-tokens-scan : (text : List ℕ) (ts : List Lexeme) → Tokens text ts → scan text ≡ Ok ts
+pub tokens-scan : (text : List ℕ) (ts : List Lexeme) → Tokens text ts → scan text ≡ Ok ts
 tokens-scan text ts t = rw (le-leb (length text) 65535 (t .short)) (ap (balanced (length text) []) (lists (t .cut)) ∙ balances (length text) (t .paired))
 
 pub scan-lawful : (text : List ℕ) → Lawful text (counted (scan text))
