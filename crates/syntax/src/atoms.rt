@@ -8,10 +8,10 @@ use text::Refused;
 use text::TokenKind;
 
 // The most nodes of a script.
-pub const NODES: usize = 4096;
+pub(crate) const NODES: usize = 4096;
 
 // A form, or a token that cannot stand at a place.
-pub fn wrong(place: usize) -> Refused
+pub(crate) fn wrong(place: usize) -> Refused
     ensures { λ r. ⌜ r ≡ record { refusal = Refusal.Form; place = place } ⌝ }
 {
     Refused {
@@ -21,7 +21,7 @@ pub fn wrong(place: usize) -> Refused
 }
 
 // One node more, at a place: how many are used then.
-pub fn claim(used: usize, entries: usize, place: usize) -> Result<usize, Refused>
+pub(crate) fn claim(used: usize, entries: usize, place: usize) -> Result<usize, Refused>
     ensures { λ r. ⌜ r ≡ claimed used entries place ⌝ }
 {
     if used < entries.min(NODES) {
@@ -32,7 +32,7 @@ pub fn claim(used: usize, entries: usize, place: usize) -> Result<usize, Refused
 }
 
 // The node of a token that is an expression by itself. A name has at most 63 bytes, so its size fits.
-pub fn leaf(kind: TokenKind, place: u16, size: usize) -> Option<NodeForm>
+pub(crate) fn leaf(kind: TokenKind, place: u16, size: usize) -> Option<NodeForm>
     ensures { λ r. ⌜ r ≡ leafForm kind place size ⌝ }
 {
     match kind {

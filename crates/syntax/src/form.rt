@@ -32,7 +32,7 @@ fn headed_kind(head: Keyword, parts: usize) -> FormKind
     }
 }
 
-pub fn form_of(seen: Survey) -> FormKind
+pub(crate) fn form_of(seen: Survey) -> FormKind
     ensures { λ r. ⌜ r ≡ formKind (seen .head) (seen .parts) ⌝ }
 {
     match seen.head {

@@ -20,7 +20,7 @@ pub struct NameAt {
     pub after: usize,
 }
 
-pub fn name_at(text: &[u8], place: usize) -> Result<NameAt, Refused>
+pub(crate) fn name_at(text: &[u8], place: usize) -> Result<NameAt, Refused>
     requires { ⌜ place ≤ length (now text) ⌝ }
     ensures goes { λ r. ⌜ GoesName (now (text .entry)) place r ⌝ }
     ensures told { λ r. ⌜ ((s : Sexp) (rest : Lexed) (n : Tally) → lexedFrom (now (text .entry)) place ≡ stream s rest → Atoms s → Named (now (text .entry)) rest (readName s n) r) ⌝ }

@@ -15,7 +15,7 @@ pub enum Look {
     Atom(TokenKind, usize, usize),
 }
 
-pub fn look_at(text: &[u8], place: usize) -> Look
+pub(crate) fn look_at(text: &[u8], place: usize) -> Look
     requires { ⌜ place ≤ length (now text) ⌝ }
     ensures { λ r. ⌜ Sees (now (text .entry)) place r ⌝ }
 {
@@ -34,7 +34,7 @@ pub fn look_at(text: &[u8], place: usize) -> Look
 }
 
 // The place behind the closing bracket that stands next, or none where something else does.
-pub fn closing_at(text: &[u8], place: usize) -> Option<usize>
+pub(crate) fn closing_at(text: &[u8], place: usize) -> Option<usize>
     requires { ⌜ place ≤ length (now text) ⌝ }
     ensures { λ r. ⌜ Closes (now (text .entry)) place r ⌝ }
 {

@@ -55,7 +55,7 @@ fn with_atom(seen: Survey, kind: TokenKind) -> Survey
 }
 
 // The list whose parts begin at a place.
-pub fn survey_at(text: &[u8], place: usize) -> Survey
+pub(crate) fn survey_at(text: &[u8], place: usize) -> Survey
     requires { ⌜ place ≤ length (now text) ⌝ }
     ensures { λ r. ⌜ r ≡ surveyed nothing (lexedFrom (now (text .entry)) place) ⌝ }
 {

@@ -19,7 +19,7 @@ pub enum Class {
     Word,
 }
 
-pub fn class_of(b: u8) -> Class
+pub(crate) fn class_of(b: u8) -> Class
     ensures { λ r. ⌜ r ≡ classOf b ⌝ }
 {
     match b {
@@ -36,7 +36,7 @@ pub fn class_of(b: u8) -> Class
 }
 
 // How many bytes at the front can stand in a word.
-pub fn word_len(s: &[u8]) -> usize
+pub(crate) fn word_len(s: &[u8]) -> usize
     ensures value { λ r. ⌜ r ≡ wordRun (now (s .entry)) ⌝ }
     ensures within { λ r. ⌜ r ≤ length (now (s .entry)) ⌝ }
 {
@@ -51,7 +51,7 @@ pub fn word_len(s: &[u8]) -> usize
 }
 
 // How many bytes at the front only separate: blanks, and comments, each through its newline.
-pub fn separator_len(s: &[u8]) -> usize
+pub(crate) fn separator_len(s: &[u8]) -> usize
     ensures value { λ r. ⌜ r ≡ separatorRun false (now (s .entry)) ⌝ }
     ensures within { λ r. ⌜ r ≤ length (now (s .entry)) ⌝ }
 {
@@ -94,7 +94,7 @@ fn inside_of(s: &[u8]) -> Inside
 }
 
 // How many bytes stand before the quote that closes a symbol; none where it is not closed or wrongly escaped.
-pub fn symbol_len(s: &[u8]) -> Option<usize>
+pub(crate) fn symbol_len(s: &[u8]) -> Option<usize>
     ensures value { λ r. ⌜ r ≡ closing (now (s .entry)) ⌝ }
     ensures within { λ r. ⌜ Cases r (Unit {0}) (λ n. n < length (now (s .entry))) ⌝ }
 {

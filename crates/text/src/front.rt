@@ -51,7 +51,7 @@ fn word_front(rest: &[u8]) -> Front
     }
 }
 
-pub fn front_of(rest: &[u8]) -> Front
+pub(crate) fn front_of(rest: &[u8]) -> Front
     ensures value { λ r. ⌜ r ≡ frontOf (now (rest .entry)) ⌝ }
     ensures within { λ r. ⌜ Within r (length (now (rest .entry))) ⌝ }
 {

@@ -69,7 +69,7 @@ fn with_sign(minus: bool, n: u32) -> Integer
     }
 }
 
-pub fn integer_of(word: &[u8]) -> Integer
+pub(crate) fn integer_of(word: &[u8]) -> Integer
     ensures { λ r. ⌜ r ≡ integerOf (now (word .entry)) ⌝ }
 {
     let (minus, digits) = split_sign(word);

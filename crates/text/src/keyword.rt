@@ -104,7 +104,7 @@ fn literal_word(word: &[u8]) -> Option<Keyword>
 }
 
 // The reserved word that `word` is, or none.
-pub fn keyword_of(word: &[u8]) -> Option<Keyword>
+pub(crate) fn keyword_of(word: &[u8]) -> Option<Keyword>
     ensures { λ r. ⌜ r ≡ keywordOf (now (word .entry)) ⌝ }
 {
     if let Some(k) = definition_word(word) {

@@ -1,13 +1,13 @@
 // The limits of the text layer.
 
 // Bytes of a whole text.
-pub const TEXT: usize = 65535;
+pub(crate) const TEXT: usize = 65535;
 
 // Bytes of a name.
-pub const NAME: usize = 63;
+pub(crate) const NAME: usize = 63;
 
 // Bytes between the quotes of a symbol, an escape as two.
-pub const SYMBOL: usize = 255;
+pub(crate) const SYMBOL: usize = 255;
 
 // Brackets open at one time.
-pub const OPEN: usize = 64;
+pub(crate) const OPEN: usize = 64;

@@ -46,7 +46,7 @@ fn close_bracket(opened: &mut Stack<'_, Bracket>, shape: Bracket) -> Result<(), 
 }
 
 // The brackets open after a token of this kind.
-pub fn nest(opened: &mut Stack<'_, Bracket>, kind: TokenKind) -> Result<(), Refusal>
+pub(crate) fn nest(opened: &mut Stack<'_, Bracket>, kind: TokenKind) -> Result<(), Refusal>
     requires { ⌜ room-of (now opened) ≡ 64 ⌝ }
     ensures nests { λ r. ⌜ Nests (nesting kind (tops (now (opened .entry)))) r (tops (now (opened .exit))) ⌝ }
     ensures room { λ _. ⌜ room-of (now (opened .exit)) ≡ room-of (now (opened .entry)) ⌝ }

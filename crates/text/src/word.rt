@@ -8,7 +8,7 @@ use super::integer::integer_of;
 use super::keyword::keyword_of;
 use super::limits::NAME;
 
-pub fn word_kind(word: &[u8]) -> Result<TokenKind, Refusal>
+pub(crate) fn word_kind(word: &[u8]) -> Result<TokenKind, Refusal>
     ensures { λ r. ⌜ r ≡ wordKind (now (word .entry)) ⌝ }
 {
     match integer_of(word) {
