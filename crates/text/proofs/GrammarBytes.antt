@@ -51,18 +51,47 @@ at-byte b c e v = subst (λ x. View x (classOf x)) (sym e) v
 
 pub view : (b : ℕ) → View b (classOf b)
 view b =
-    elim (eqb-tells b 32) [ inl p ↦ at-byte b 32 (p .1) (is-blank (inl refl) (λ e. omega arith)) | inr n0 ↦
-    elim (eqb-tells b 9) [ inl p ↦ at-byte b 9 (p .1) (is-blank (inr (inl refl)) (λ e. omega arith)) | inr n1 ↦
-    elim (eqb-tells b 13) [ inl p ↦ at-byte b 13 (p .1) (is-blank (inr (inr (inl refl))) (λ e. omega arith)) | inr n2 ↦
-    elim (eqb-tells b 10) [ inl p ↦ at-byte b 10 (p .1) (is-newline refl) | inr n3 ↦
-    elim (eqb-tells b 59) [ inl p ↦ at-byte b 59 (p .1) (is-comment refl) | inr n4 ↦
-    elim (eqb-tells b 40) [ inl p ↦ at-byte b 40 (p .1) (is-open Round refl) | inr n5 ↦
-    elim (eqb-tells b 41) [ inl p ↦ at-byte b 41 (p .1) (is-close Round refl) | inr n6 ↦
-    elim (eqb-tells b 91) [ inl p ↦ at-byte b 91 (p .1) (is-open Square refl) | inr n7 ↦
-    elim (eqb-tells b 93) [ inl p ↦ at-byte b 93 (p .1) (is-close Square refl) | inr n8 ↦
-    elim (eqb-tells b 39) [ inl p ↦ at-byte b 39 (p .1) (is-quote refl) | inr n9 ↦
-      rw (n0 .0, n1 .0, n2 .0, n3 .0, n4 .0, n5 .0, n6 .0, n7 .0, n8 .0, n9 .0) (is-word (none-ends b (n0 .1) (n1 .1) (n2 .1) (n3 .1) (n5 .1) (n6 .1) (n7 .1) (n8 .1) (n4 .1) (n9 .1)))
-    ] ] ] ] ] ] ] ] ] ]
+    elim (eqb-tells b 32) [
+      | inl p ↦ at-byte b 32 (p .1) (is-blank (inl refl) (λ e. omega arith))
+      | inr n0 ↦
+          elim (eqb-tells b 9) [
+            | inl p ↦ at-byte b 9 (p .1) (is-blank (inr (inl refl)) (λ e. omega arith))
+            | inr n1 ↦
+                elim (eqb-tells b 13) [
+                  | inl p ↦ at-byte b 13 (p .1) (is-blank (inr (inr (inl refl))) (λ e. omega arith))
+                  | inr n2 ↦
+                      elim (eqb-tells b 10) [
+                        | inl p ↦ at-byte b 10 (p .1) (is-newline refl)
+                        | inr n3 ↦
+                            elim (eqb-tells b 59) [
+                              | inl p ↦ at-byte b 59 (p .1) (is-comment refl)
+                              | inr n4 ↦
+                                  elim (eqb-tells b 40) [
+                                    | inl p ↦ at-byte b 40 (p .1) (is-open Round refl)
+                                    | inr n5 ↦
+                                        elim (eqb-tells b 41) [
+                                          | inl p ↦ at-byte b 41 (p .1) (is-close Round refl)
+                                          | inr n6 ↦
+                                              elim (eqb-tells b 91) [
+                                                | inl p ↦ at-byte b 91 (p .1) (is-open Square refl)
+                                                | inr n7 ↦
+                                                    elim (eqb-tells b 93) [
+                                                      | inl p ↦ at-byte b 93 (p .1) (is-close Square refl)
+                                                      | inr n8 ↦
+                                                          elim (eqb-tells b 39) [
+                                                            | inl p ↦ at-byte b 39 (p .1) (is-quote refl)
+                                                            | inr n9 ↦
+                                                                rw (n0 .0, n1 .0, n2 .0, n3 .0, n4 .0, n5 .0, n6 .0, n7 .0, n8 .0, n9 .0) (is-word (none-ends b (n0 .1) (n1 .1) (n2 .1) (n3 .1) (n5 .1) (n6 .1) (n7 .1) (n8 .1) (n4 .1) (n9 .1)))
+                                                          ]
+                                                    ]
+                                              ]
+                                        ]
+                                  ]
+                            ]
+                      ]
+                ]
+          ]
+    ]
 
 -- a byte that ends no word is a word's
 pub word-class : (b : ℕ) → (Ending b → ⊥) → classOf b ≡ class.Word
@@ -140,7 +169,7 @@ pub record Gap (o : Bool) (s : List ℕ) : Type 0 where
   pub stops : (length s ≡ separatorRun o s) ⊎ (after ≡ false)
 
 longer : (b : ℕ) (s : List ℕ) (o o₁ : Bool) → separatorRun o (b ∷ s) ≡ suc (separatorRun o₁ s)
-  → ((o′ : Bool) (x : List ℕ) → Separator o₁ o′ x → Separator o o′ (b ∷ x)) → Gap o₁ s → Gap o (b ∷ s)
+    → ((o′ : Bool) (x : List ℕ) → Separator o₁ o′ x → Separator o o′ (b ∷ x)) → Gap o₁ s → Gap o (b ∷ s)
 longer b s o o₁ run cons f = record {
   after = f .after;
   gap = rw run (cons (f .after) (take (separatorRun o₁ s) s) (f .gap));
@@ -157,17 +186,19 @@ run-separates o [] = record { after = o; gap = nothing; stops = inl refl }
 run-separates true (b ∷ s) =
     let rest = run-separates (commentAfter (classOf b) true) s in
     elim (eqb-tells b 10) [
-      inl p ↦
-        (let a : commentAfter (classOf b) true ≡ false = rw (p .1) refl in
-         let t : separates (classOf b) true ≡ true = rw (p .1) refl in
-         longer b s true false (cons-run b s true false t a) (λ o x sep. newline (p .1) sep) (subst (λ o. Gap o s) a rest))
-    | inr n ↦
-        (let k = commented-class b (n .1) in
-         longer b s true true (cons-run b s true true (k .0) (k .1)) (λ o x sep. commented (n .1) sep) (subst (λ o. Gap o s) (k .1) rest)) ]
+      | inl p ↦
+          (let a : commentAfter (classOf b) true ≡ false = rw (p .1) refl in
+          let t : separates (classOf b) true ≡ true = rw (p .1) refl in
+          longer b s true false (cons-run b s true false t a) (λ o x sep. newline (p .1) sep) (subst (λ o. Gap o s) a rest))
+      | inr n ↦
+          (let k = commented-class b (n .1) in
+          longer b s true true (cons-run b s true true (k .0) (k .1)) (λ o x sep. commented (n .1) sep) (subst (λ o. Gap o s) (k .1) rest))
+    ]
 run-separates false (b ∷ s) = go (classOf b) refl (view b) (run-separates (commentAfter (classOf b) false) s)
   where
     between : Blank b → Gap (commentAfter (classOf b) false) s → Gap false (b ∷ s)
     between p rest = let k = blank-class b p in longer b s false false (cons-run b s false false (k .0) (k .1)) (λ o x sep. blank p sep) (subst (λ o. Gap o s) (k .1) rest)
+
     go : (k : Class) → classOf b ≡ k → View b k → Gap (commentAfter (classOf b) false) s → Gap false (b ∷ s)
     go class.Blank e (is-blank p n) rest = between p rest
     go class.Newline e (is-newline p) rest = between (inr (inr (inr p))) rest

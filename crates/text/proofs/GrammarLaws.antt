@@ -53,8 +53,9 @@ closed-gap : (s : List ℕ) (k : TokenKind) (n : ℕ) → frontOf (drop (separat
 closed-gap s k n e =
     let g = run-separates false s in
     elim (g .stops) [
-      inl z ↦ absurd (clash (let f = drop-all (separatorRun false s) s (omega (arith, z)) in let h : front.Nothing ≡ front.Token k n = sym (ap frontOf f) ∙ e in cc))
-    | inr p ↦ subst (λ o. Separator false o (take (separatorRun false s) s)) p (g .gap) ]
+      | inl z ↦ absurd (clash (let f = drop-all (separatorRun false s) s (omega (arith, z)) in let h : front.Nothing ≡ front.Token k n = sym (ap frontOf f) ∙ e in cc))
+      | inr p ↦ subst (λ o. Separator false o (take (separatorRun false s) s)) p (g .gap)
+    ]
 
 -- the tokens that the definitions list cut the text
 cuts : (ts : List Lexeme) (i : ℕ) (s : List ℕ) → lexed 0 i s ≡ listed ts → Cut i s ts
@@ -67,7 +68,7 @@ cuts [] i s e = go (frontOf (drop (separatorRun false s) s)) refl (sym (behind i
 cuts (t ∷ ts) i s e = go (frontOf (drop (separatorRun false s) s)) refl (sym (behind i s) ∙ e) (cuts ts)
   where
     go : (f : Front) → frontOf (drop (separatorRun false s) s) ≡ f → continued (i + separatorRun false s) (drop (separatorRun false s) s) f ≡ also t (listed ts)
-      → ((j : ℕ) (r : List ℕ) → lexed 0 j r ≡ listed ts → Cut j r ts) → Cut i s (t ∷ ts)
+        → ((j : ℕ) (r : List ℕ) → lexed 0 j r ≡ listed ts → Cut j r ts) → Cut i s (t ∷ ts)
     go front.Nothing p h more = absurd (clash cc)
     go (front.Refused r) p h more = absurd (clash cc)
     go (front.Token k n) p h more =
@@ -79,10 +80,10 @@ cuts (t ∷ ts) i s e = go (frontOf (drop (separatorRun false s) s)) refl (sym (
         let size : length (take n x) ≡ n = length-take-le n x (sp .2) in
         let long : length (take g s) ≡ g = length-take-le g s (separator-within false s) in
         subst (λ t. Cut i s (t ∷ ts)) et
-          (next (take g s) (drop n x) (lexeme k (i + g) (take n x)) (closed-gap s k n p) (sp .0) (sp .1)
-            (sym (take-append-drop g s) ∙ ap (λ y. take g s ++ y) (sym (take-append-drop n x)))
-            (ap (λ m. i + m) (sym long))
-            (subst (λ m. Cut (i + g + m) (drop n x) ts) (sym size) (more (i + g + n) (drop n x) er)))
+        (next (take g s) (drop n x) (lexeme k (i + g) (take n x)) (closed-gap s k n p) (sp .0) (sp .1)
+        (sym (take-append-drop g s) ∙ ap (λ y. take g s ++ y) (sym (take-append-drop n x)))
+        (ap (λ m. i + m) (sym long))
+        (subst (λ m. Cut (i + g + m) (drop n x) ts) (sym size) (more (i + g + n) (drop n x) er)))
 
 -- tokens that cut the text are those that the definitions list
 lists : {i : ℕ} {s : List ℕ} {ts : List Lexeme} → Cut i s ts → lexed 0 i s ≡ listed ts
@@ -123,6 +124,7 @@ pairs-one t ts opened after e p = go (t .kind) refl opened e
   where
     aside : {o : List Bracket} → NoBracket (t .kind) → _≡_ {A = Result (List Bracket) Refusal} (Ok o) (Ok after) → Paired o (t ∷ ts)
     aside {o} n h = let q : after ≡ o = cc in other t n (subst (λ o. Paired o ts) q p)
+
     go : (k : TokenKind) → t .kind ≡ k → (o : List Bracket) → nesting k o ≡ Ok after → Paired o (t ∷ ts)
     go (kind.Open r) q o h = shaped (ltb (length o) 64) refl h
       where
@@ -151,8 +153,8 @@ pairs end o (fault f i) ts e = absurd (clash cc)
 pairs end o (also t l) ts e = go (nesting (t .kind) o) refl e (λ after. pairs end after l)
   where
     go : (v : Result (List Bracket) Refusal) → nesting (t .kind) o ≡ v
-      → _≡_ {A = Result (List Lexeme) Refused} (elim v [ Ok after ↦ precede t (balanced end after l) | Err f ↦ Err (refusedAt f (t .place)) ]) (Ok ts)
-      → ((after : List Bracket) (us : List Lexeme) → balanced end after l ≡ Ok us → (l ≡ listed us) × Paired after us) → (also t l ≡ listed ts) × Paired o ts
+        → _≡_ {A = Result (List Lexeme) Refused} (elim v [ Ok after ↦ precede t (balanced end after l) | Err f ↦ Err (refusedAt f (t .place)) ]) (Ok ts)
+        → ((after : List Bracket) (us : List Lexeme) → balanced end after l ≡ Ok us → (l ≡ listed us) × Paired after us) → (also t l ≡ listed ts) × Paired o ts
     go (Err f) q h more = absurd (clash cc)
     go (Ok after) q h more =
         let u = preceded t (balanced end after l) ts h in

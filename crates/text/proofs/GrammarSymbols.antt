@@ -35,14 +35,20 @@ data View : List ℕ → Inside → Type 0 where
 at-backslash : (b : ℕ) (s : List ℕ) → b ≡ 92 → View (b ∷ s) (afterBackslash s)
 at-backslash b [] e = is-broken
 at-backslash b (c ∷ s) e =
-    elim (eqb-tells c 39) [ inl p ↦ rw (p .0) (is-escape e (inl (p .1))) | inr n ↦
-    elim (eqb-tells c 92) [ inl p ↦ rw (n .0, p .0) (is-escape e (inr (p .1))) | inr m ↦ rw (n .0, m .0) is-broken ] ]
+    elim (eqb-tells c 39) [
+      | inl p ↦ rw (p .0) (is-escape e (inl (p .1)))
+      | inr n ↦
+          elim (eqb-tells c 92) [ inl p ↦ rw (n .0, p .0) (is-escape e (inr (p .1))) | inr m ↦ rw (n .0, m .0) is-broken ]
+    ]
 
 view : (s : List ℕ) → View s (insideOf s)
 view [] = at-end
 view (b ∷ s) =
-    elim (eqb-tells b 39) [ inl p ↦ rw (p .0) (is-quote (p .1)) | inr n ↦
-    elim (eqb-tells b 92) [ inl p ↦ rw (n .0, p .0) (at-backslash b s (p .1)) | inr m ↦ rw (n .0, m .0) (is-plain (n .1) (m .1)) ] ]
+    elim (eqb-tells b 39) [
+      | inl p ↦ rw (p .0) (is-quote (p .1))
+      | inr n ↦
+          elim (eqb-tells b 92) [ inl p ↦ rw (n .0, p .0) (at-backslash b s (p .1)) | inr m ↦ rw (n .0, m .0) (is-plain (n .1) (m .1)) ]
+    ]
 
 -- where the closing quote stands, with or without an escaped byte first
 data Found : Bool → List ℕ → ℕ → Type 0 where
@@ -59,7 +65,7 @@ further b s m x y (found q d) = found (plain x y q) d
 
 -- by what comes next, from where the closing quote stands in the rest
 onward : (b : ℕ) (s : List ℕ) (n : ℕ) (k : Inside) → View (b ∷ s) k → insideOf (b ∷ s) ≡ k → closingAfter false (b ∷ s) ≡ Some n
-  → ((m : ℕ) → closingAfter false s ≡ Some m → Found false s m) → ((m : ℕ) → closingAfter true s ≡ Some m → Found true s m) → Found false (b ∷ s) n
+    → ((m : ℕ) → closingAfter false s ≡ Some m → Found false s m) → ((m : ℕ) → closingAfter true s ≡ Some m → Found true s m) → Found false (b ∷ s) n
 onward b s n Broken v p e f g = absurd (clash (let h : None ≡ Some n = rw (p, closingAfter) at e in cc))
 onward b s n Closed (is-quote q) p e f g =
     let h : Some 0 ≡ Some n = rw (p, closingAfter) at e in

@@ -44,8 +44,9 @@ clash z = omega arith
 named : (w rest : List ℕ) (k : TokenKind) → Word w → EndsWord rest → integerOf w ≡ integer.Neither → (o : Option Keyword) → keywordOf w ≡ o → nameOr o (length w) ≡ Ok k → Spelt k w × Whole k rest
 named w rest k word ends i (Some j) p e = let q : kind.Keyword j ≡ k = cc in subst (λ k. Spelt k w × Whole k rest) q ((word, i, p), ends)
 named w rest k word ends i None p e = elim (leb-tells (length w) 63) [
-    inl t ↦ (let h : Ok kind.Name ≡ Ok k = rw (t .0) at e in let q : kind.Name ≡ k = cc in subst (λ k. Spelt k w × Whole k rest) q ((word, i, p, t .1), ends))
-  | inr t ↦ absurd (clash (let h : Err refusal.Limit ≡ Ok k = rw (t .0) at e in cc)) ]
+  | inl t ↦ (let h : Ok kind.Name ≡ Ok k = rw (t .0) at e in let q : kind.Name ≡ k = cc in subst (λ k. Spelt k w × Whole k rest) q ((word, i, p, t .1), ends))
+  | inr t ↦ absurd (clash (let h : Err refusal.Limit ≡ Ok k = rw (t .0) at e in cc))
+]
 
 kind-spelt : (w rest : List ℕ) (k : TokenKind) → Word w → EndsWord rest → wordKind w ≡ Ok k → Spelt k w × Whole k rest
 kind-spelt w rest k word ends e = go (integerOf w) refl e
@@ -73,19 +74,20 @@ symbol-spelt b s k n p e = go (closing s) refl e
     go : (o : Option ℕ) → closing s ≡ o → closedSymbol o ≡ front.Token k n → Spelt k (take n (b ∷ s)) × Whole k (drop n (b ∷ s)) × (n ≤ length (b ∷ s))
     go None q h = absurd (clash cc)
     go (Some m) q h = elim (leb-tells m 255) [
-        inr t ↦ absurd (clash (let f : front.Refused refusal.Limit ≡ front.Token k n = rw (t .0) at h in cc))
+      | inr t ↦ absurd (clash (let f : front.Refused refusal.Limit ≡ front.Token k n = rw (t .0) at h in cc))
       | inl t ↦
-        (let f : front.Token kind.Symbol (m + 2) ≡ front.Token k n = rw (t .0) at h in
-         let ek : kind.Symbol ≡ k = cc in
-         let en : m + 2 ≡ n = cc in
-         let c = closing-quoted s m q in
-         let lt = within-quote s m (c .1) in
-         let more : m + 2 ≡ suc (m + 1) = omega arith in
-         let bytes : take (m + 2) (b ∷ s) ≡ 39 ∷ (take m s ++ 39 ∷ []) = ap (λ n. take n (b ∷ s)) more ∙ ap (λ x. x ∷ take (m + 1) s) p ∙ ap (λ x. 39 ∷ x) (quoted-bytes s m (c .1)) in
-         let few : length (take m s) ≤ 255 = omega (arith, length-take m s) in
-         subst (λ k. Spelt k (take n (b ∷ s)) × Whole k (drop n (b ∷ s)) × (n ≤ length (b ∷ s))) ek
-           (subst (λ n. Spelt kind.Symbol (take n (b ∷ s)) × Whole kind.Symbol (drop n (b ∷ s)) × (n ≤ length (b ∷ s))) en
-             ((take m s, bytes, c .0, few), tt, omega arith))) ]
+          (let f : front.Token kind.Symbol (m + 2) ≡ front.Token k n = rw (t .0) at h in
+          let ek : kind.Symbol ≡ k = cc in
+          let en : m + 2 ≡ n = cc in
+          let c = closing-quoted s m q in
+          let lt = within-quote s m (c .1) in
+          let more : m + 2 ≡ suc (m + 1) = omega arith in
+          let bytes : take (m + 2) (b ∷ s) ≡ 39 ∷ (take m s ++ 39 ∷ []) = ap (λ n. take n (b ∷ s)) more ∙ ap (λ x. x ∷ take (m + 1) s) p ∙ ap (λ x. 39 ∷ x) (quoted-bytes s m (c .1)) in
+          let few : length (take m s) ≤ 255 = omega (arith, length-take m s) in
+          subst (λ k. Spelt k (take n (b ∷ s)) × Whole k (drop n (b ∷ s)) × (n ≤ length (b ∷ s))) ek
+          (subst (λ n. Spelt kind.Symbol (take n (b ∷ s)) × Whole kind.Symbol (drop n (b ∷ s)) × (n ≤ length (b ∷ s))) en
+          ((take m s, bytes, c .0, few), tt, omega arith)))
+    ]
 
 word-spelt : (s : List ℕ) (k : TokenKind) (n : ℕ) → 0 < wordRun s → judged (wordRun s) (wordKind (take (wordRun s) s)) ≡ front.Token k n → Spelt k (take n s) × Whole k (drop n s) × (n ≤ length s)
 word-spelt s k n some e = go (wordKind (take (wordRun s) s)) refl e
@@ -96,18 +98,19 @@ word-spelt s k n some e = go (wordKind (take (wordRun s) s)) refl e
         let ek : j ≡ k = cc in
         let en : wordRun s ≡ n = cc in
         elim (run-word s) [
-          inl z ↦ absurd (omega arith)
-        | inr w ↦
-          (let t = kind-spelt (take (wordRun s) s) (drop (wordRun s) s) j w (run-ends s) p in
-           subst (λ k. Spelt k (take n s) × Whole k (drop n s) × (n ≤ length s)) ek
-             (subst (λ n. Spelt j (take n s) × Whole j (drop n s) × (n ≤ length s)) en (t .0, t .1, word-within s))) ]
+          | inl z ↦ absurd (omega arith)
+          | inr w ↦
+              (let t = kind-spelt (take (wordRun s) s) (drop (wordRun s) s) j w (run-ends s) p in
+              subst (λ k. Spelt k (take n s) × Whole k (drop n s) × (n ≤ length s)) ek
+              (subst (λ n. Spelt j (take n s) × Whole j (drop n s) × (n ≤ length s)) en (t .0, t .1, word-within s)))
+        ]
 
 bracket-spelt : (b : ℕ) (s : List ℕ) (j k : TokenKind) (n : ℕ) → front.Token j 1 ≡ front.Token k n → Spelt j (b ∷ []) → Whole j s → Spelt k (take n (b ∷ s)) × Whole k (drop n (b ∷ s)) × (n ≤ length (b ∷ s))
 bracket-spelt b s j k n e p w =
     let ek : j ≡ k = cc in
     let en : 1 ≡ n = cc in
     subst (λ k. Spelt k (take n (b ∷ s)) × Whole k (drop n (b ∷ s)) × (n ≤ length (b ∷ s))) ek
-      (subst (λ n. Spelt j (take n (b ∷ s)) × Whole j (drop n (b ∷ s)) × (n ≤ length (b ∷ s))) en (p, w, omega arith))
+    (subst (λ n. Spelt j (take n (b ∷ s)) × Whole j (drop n (b ∷ s)) × (n ≤ length (b ∷ s))) en (p, w, omega arith))
 
 -- what the definitions call a token is spelt as one, whole
 pub front-spelt : (s : List ℕ) (k : TokenKind) (n : ℕ) → frontOf s ≡ front.Token k n → Spelt k (take n s) × Whole k (drop n s) × (n ≤ length s)

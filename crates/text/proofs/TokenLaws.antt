@@ -103,6 +103,7 @@ over-separators i (b ∷ s) = go (separates (classOf b) false) refl
   where
     m : ℕ
     m = separatorRun (commentAfter (classOf b) false) s
+
     go : (v : Bool) → separates (classOf b) false ≡ v → lexed 0 i (b ∷ s) ≡ lexed 0 (i + separatorRun false (b ∷ s)) (drop (separatorRun false (b ∷ s)) (b ∷ s))
     go true p =
         let run : separatorRun false (b ∷ s) ≡ suc m = rw (p, separatorRun) refl in

@@ -78,10 +78,11 @@ abbrev pub closingAfter : Bool → List ℕ → Option ℕ
 closingAfter escaped [] = None
 closingAfter true (b ∷ s) = mapped suc (closingAfter false s)
 closingAfter false (b ∷ s) = elim (insideOf (b ∷ s)) [
-    Closed ↦ Some 0
+  | Closed ↦ Some 0
   | Broken ↦ None
   | Escape ↦ mapped suc (closingAfter true s)
-  | Plain ↦ mapped suc (closingAfter false s) ]
+  | Plain ↦ mapped suc (closingAfter false s)
+]
 
 abbrev pub closing : List ℕ → Option ℕ
 closing = closingAfter false

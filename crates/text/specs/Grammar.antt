@@ -80,9 +80,9 @@ Whole Name rest = EndsWord rest
 pub data Cut : ℕ → List ℕ → List Lexeme → Type 0 where
   last : {i : ℕ} {s : List ℕ} (o : Bool) → Separator false o s → Cut i s []
   next : {i : ℕ} {s : List ℕ} {ts : List Lexeme} (gap rest : List ℕ) (t : Lexeme)
-    → Separator false false gap → Spelt (t .kind) (t .bytes) → Whole (t .kind) rest
-    → s ≡ gap ++ (t .bytes ++ rest) → t .place ≡ i + length gap
-    → Cut (t .place + length (t .bytes)) rest ts → Cut i s (t ∷ ts)
+      → Separator false false gap → Spelt (t .kind) (t .bytes) → Whole (t .kind) rest
+      → s ≡ gap ++ (t .bytes ++ rest) → t .place ≡ i + length gap
+      → Cut (t .place + length (t .bytes)) rest ts → Cut i s (t ∷ ts)
 
 -- neither an opening nor a closing bracket
 abbrev pub NoBracket : TokenKind → Type 0
@@ -97,9 +97,9 @@ NoBracket Name = Unit {0}
 pub data Paired : List Bracket → List Lexeme → Type 0 where
   closed : Paired [] []
   opens : {opened : List Bracket} {ts : List Lexeme} (t : Lexeme) (shape : Bracket) → t .kind ≡ Open shape → length opened < 64
-    → Paired (shape ∷ opened) ts → Paired opened (t ∷ ts)
+      → Paired (shape ∷ opened) ts → Paired opened (t ∷ ts)
   closes : {opened : List Bracket} {ts : List Lexeme} (t : Lexeme) (shape : Bracket) → t .kind ≡ Close shape
-    → Paired opened ts → Paired (shape ∷ opened) (t ∷ ts)
+      → Paired opened ts → Paired (shape ∷ opened) (t ∷ ts)
   other : {opened : List Bracket} {ts : List Lexeme} (t : Lexeme) → NoBracket (t .kind) → Paired opened ts → Paired opened (t ∷ ts)
 
 -- the tokens of a lawful text

@@ -50,8 +50,9 @@ abbrev pub balanced : ℕ → List Bracket → Lexed → Result (List Lexeme) Re
 balanced end opened done = allClosed end opened
 balanced end opened (fault e i) = Err (refusedAt e i)
 balanced end opened (also t rest) = elim (nesting (t .kind) opened) [
-    Ok after ↦ precede t (balanced end after rest)
-  | Err e ↦ Err (refusedAt e (t .place)) ]
+  | Ok after ↦ precede t (balanced end after rest)
+  | Err e ↦ Err (refusedAt e (t .place))
+]
 
 -- A text of at most 65,535 bytes: its tokens, all of them lawful, with brackets in pairs; or the first refusal from the left.
 abbrev pub scan : List ℕ → Result (List Lexeme) Refused

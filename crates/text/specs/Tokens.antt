@@ -34,9 +34,10 @@ abbrev pub lexed : ℕ → ℕ → List ℕ → Lexed
 lexed n i [] = done
 lexed (suc n) i (b ∷ s) = lexed n (i + 1) s
 lexed zero i (b ∷ s) = elim (frontOf (b ∷ s)) [
-    front.Nothing ↦ lexed (separatorRun false (b ∷ s) - 1) (i + 1) s
+  | front.Nothing ↦ lexed (separatorRun false (b ∷ s) - 1) (i + 1) s
   | front.Refused e ↦ fault e i
-  | front.Token k n ↦ also (lexeme k i (take n (b ∷ s))) (lexed (n - 1) (i + 1) s) ]
+  | front.Token k n ↦ also (lexeme k i (take n (b ∷ s))) (lexed (n - 1) (i + 1) s)
+]
 
 -- the tokens of a text from a place on
 abbrev pub lexedFrom : List ℕ → ℕ → Lexed

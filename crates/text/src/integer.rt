@@ -63,9 +63,17 @@ fn with_sign(minus: bool, n: u32) -> Integer
 {
     let n = u64::from(n);
     if minus {
-        if n <= LEAST { Integer::Fits((0 - n as i64) as i32) } else { Integer::TooLarge }
+        if n <= LEAST {
+            Integer::Fits((0 - n as i64) as i32)
+        } else {
+            Integer::TooLarge
+        }
     } else {
-        if n < LEAST { Integer::Fits(n as i32) } else { Integer::TooLarge }
+        if n < LEAST {
+            Integer::Fits(n as i32)
+        } else {
+            Integer::TooLarge
+        }
     }
 }
 

@@ -3,12 +3,12 @@ ghost use mathlib.Core.Path.{_≡_};
 ghost use Prim.Native.Nat.{min};
 ghost use lib.ListN.{length};
 ghost use Rattle.text.specs.Reading.{Reads};
-use super::Reader;
 use super::super::Refused;
 use super::super::Token;
 use super::super::bytes::separator_len;
 use super::super::front::Front;
 use super::super::front::front_of;
+use super::Reader;
 
 impl<'t> Reader<'t> {
     // A reader at the text's beginning.
@@ -25,7 +25,10 @@ impl<'t> Reader<'t> {
         ensures place { λ r. ⌜ r .place ≡ min place (length (now (text .entry))) ⌝ }
     {
         let most = text.len();
-        Reader { text, place: place.min(most) }
+        Reader {
+            text,
+            place: place.min(most),
+        }
     }
 
     // Where the reader stands: behind the token that it read last.

@@ -46,9 +46,9 @@ returns-in-Token c =
     record {
       reads = record {
         follows =
-          next-is s i _ (c .separator-len .ensures .value) _ (c .in-Token .ensures tt .value)
-          ∙ ap (λ m. also (lexeme k j (take m x)) (lexed 0 (j + n) (drop n x))) same
-          ∙ ap (λ t. also (lexeme k j (take (j + n - j) x)) (lexed 0 (j + n) t)) (drop-drop n j s);
+            next-is s i _ (c .separator-len .ensures .value) _ (c .in-Token .ensures tt .value)
+            ∙ ap (λ m. also (lexeme k j (take m x)) (lexed 0 (j + n) (drop n x))) same
+            ∙ ap (λ t. also (lexeme k j (take (j + n - j) x)) (lexed 0 (j + n) t)) (drop-drop n j s);
         forward = (omega arith, omega arith);
         within = omega arith;
         ends = ap (λ m. j + m) (sym long);
