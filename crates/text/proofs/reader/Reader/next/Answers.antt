@@ -5,7 +5,7 @@ use lib.ListN.{length, drop, take}
 use Rattle.std.proofs.shelf.Lists.{take-rest, drop-drop, length-drop, length-take-le}
 use Rattle.text.specs.Fronts.{frontOf}
 use Rattle.text.specs.Grammar.{Spelt, Whole}
-use Rattle.text.specs.Tokens.{also, lexeme, lexed}
+use Rattle.text.specs.Tokens.{fault, also, lexeme, lexed, lexedFrom}
 use Rattle.text.proofs.GrammarTokens.{front-spelt}
 use Rattle.text.proofs.TokenLaws.{next-is, next-end, token-some}
 use Rattle.text.proofs.reader.Reader.next.Needs as need
@@ -26,7 +26,9 @@ pub returns-in-Refused : need.returns-in-Refused
 returns-in-Refused c =
     let s = c .args .self .now .text .now in
     let i = c .args .self .now .place in
-    record { reads = (next-is s i _ (c .separator-len .ensures .value) _ (c .in-Refused .ensures tt .value), refl); text = refl }
+    let j = i + c .separator-len .result in
+    let here : lexedFrom s i ≡ fault (c .in-Refused .refusal) j = next-is s i _ (c .separator-len .ensures .value) _ (c .in-Refused .ensures tt .value) in
+    record { reads = (cc, refl); text = refl }
 
 pub returns-in-Token : need.returns-in-Token
 returns-in-Token c =
@@ -43,12 +45,13 @@ returns-in-Token c =
     let size = length-drop j s in
     let same : n ≡ j + n - j = omega arith in
     let long : length (take (j + n - j) x) ≡ n = ap (λ m. length (take m x)) (sym same) ∙ length-take-le n x inside in
+    let here : lexedFrom s i ≡ also (lexeme k j (take (j + n - j) x)) (lexedFrom s (j + n)) =
+        next-is s i _ (c .separator-len .ensures .value) _ (c .in-Token .ensures tt .value)
+        ∙ ap (λ m. also (lexeme k j (take m x)) (lexed 0 (j + n) (drop n x))) same
+        ∙ ap (λ t. also (lexeme k j (take (j + n - j) x)) (lexed 0 (j + n) t)) (drop-drop n j s) in
     record {
       reads = record {
-        follows =
-            next-is s i _ (c .separator-len .ensures .value) _ (c .in-Token .ensures tt .value)
-            ∙ ap (λ m. also (lexeme k j (take m x)) (lexed 0 (j + n) (drop n x))) same
-            ∙ ap (λ t. also (lexeme k j (take (j + n - j) x)) (lexed 0 (j + n) t)) (drop-drop n j s);
+        follows = cc;
         forward = (omega arith, omega arith);
         within = omega arith;
         ends = ap (λ m. j + m) (sym long);
