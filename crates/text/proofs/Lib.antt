@@ -6,4 +6,5 @@ pub mod ScanLaws
 pub mod GrammarBytes
 pub mod GrammarSymbols
 pub mod GrammarTokens
+pub mod GrammarEdges
 pub mod GrammarLaws

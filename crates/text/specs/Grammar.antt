@@ -61,6 +61,15 @@ Spelt (Integer n) w = Word w × (integerOf w ≡ Fits n)
 Spelt (Keyword k) w = Word w × (integerOf w ≡ Neither) × (keywordOf w ≡ Some k)
 Spelt Name w = Word w × (integerOf w ≡ Neither) × (keywordOf w ≡ None) × (length w ≤ 63)
 
+-- neither its first nor its last byte is a blank
+abbrev pub LastUnblank : ℕ → List ℕ → Type 0
+LastUnblank b [] = Blank b → ⊥
+LastUnblank b (c ∷ s) = LastUnblank c s
+
+abbrev pub Unblank : List ℕ → Type 0
+Unblank [] = ⊥
+Unblank (b ∷ s) = (Blank b → ⊥) × LastUnblank b s
+
 -- a text that begins with no byte of a word
 abbrev pub EndsWord : List ℕ → Type 0
 EndsWord [] = Unit {0}

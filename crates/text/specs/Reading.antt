@@ -7,7 +7,7 @@ use Rattle.std.specs.declared.option.Option.{Option}
 use Rattle.std.specs.declared.option.Option.the-variants.{Some, None}
 use Rattle.std.specs.declared.result.Result.{Result}
 use Rattle.std.specs.declared.result.Result.the-variants.{Ok, Err}
-use Rattle.text.specs.Grammar.{Spelt, Whole}
+use Rattle.text.specs.Grammar.{Spelt, Whole, Unblank}
 use Rattle.text.specs.Tokens.{done, fault, also, lexemeOf, lexedFrom}
 use Rattle.text.specs.declared.refusal.Refused.{Refused}
 use Rattle.text.specs.declared.token.Token.{Token}
@@ -24,6 +24,8 @@ pub record Next (text : List ℕ) (place : ℕ) (t : Token) (after : ℕ) : Type
   -- it is spelt as its kind is, and goes as far as it can
   pub spelt : Spelt (t .kind) (t .bytes .now)
   pub whole : Whole (t .kind) (drop after text)
+  -- it neither begins nor ends in a blank
+  pub edges : Unblank (t .bytes .now)
 
 abbrev pub Reads : List ℕ → ℕ → Result (Option Token) Refused → ℕ → Type 0
 Reads text place (Ok (Some t)) after = Next text place t after

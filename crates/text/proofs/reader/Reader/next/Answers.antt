@@ -4,8 +4,9 @@ use native.Mathlib.Omega.{arith}
 use lib.ListN.{length, drop, take}
 use Rattle.std.proofs.shelf.Lists.{take-rest, drop-drop, length-drop, length-take-le}
 use Rattle.text.specs.Fronts.{frontOf}
-use Rattle.text.specs.Grammar.{Spelt, Whole}
+use Rattle.text.specs.Grammar.{Spelt, Whole, Unblank}
 use Rattle.text.specs.Tokens.{fault, also, lexeme, lexed, lexedFrom}
+use Rattle.text.proofs.GrammarEdges.{spelt-edges}
 use Rattle.text.proofs.GrammarTokens.{front-spelt}
 use Rattle.text.proofs.TokenLaws.{next-is, next-end, token-some}
 use Rattle.text.proofs.reader.Reader.next.Needs as need
@@ -57,6 +58,7 @@ returns-in-Token c =
         ends = ap (λ m. j + m) (sym long);
         part = ap (λ m. take m x) (sym same ∙ sym long);
         spelt = subst (λ m. Spelt k (take m x)) same (sp .0);
+        edges = subst (λ m. Unblank (take m x)) same (spelt-edges k (take n x) (sp .0));
         whole = subst (Whole k) (drop-drop n j s) (sp .1);
       };
       text = refl;
