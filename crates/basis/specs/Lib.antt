@@ -1,0 +1,4 @@
+pub mod Numbers
+pub mod Faults
+pub mod Arithmetic
+pub mod ArithmeticLaws
