@@ -1,3 +1,4 @@
 pub mod Wrapping
 pub mod Divisions
 pub mod Shifts
+pub mod LookUps

@@ -1,5 +1,5 @@
 -- The number of each function of the basis, and the function with a number.
-use mathlib.Core.List.{List, [], _∷_}
+use mathlib.Core.List.{List, [], _∷_, _++_}
 use Prim.Native.Nat.{ℕ}
 use Rattle.std.specs.shelf.Maps.{nth}
 use Rattle.std.specs.declared.option.Option.{Option}
@@ -41,16 +41,33 @@ numberOf PrintNewline = 30
 numberOf PrintAscii = 31
 numberOf Input = 32
 
+-- the functions that tell whether two values are equal
+abbrev pub equalities : List Basis
+equalities = EqualInt ∷ EqualBool ∷ EqualSym ∷ EqualUnit ∷ []
+
+-- the functions that compute with ints
+abbrev pub arithmetic : List Basis
+arithmetic = Add ∷ Subtract ∷ Multiply ∷ Divide ∷ Remainder ∷ UnsignedDivide ∷ UnsignedRemainder ∷ Negate ∷ []
+
+-- the functions that compare ints
+abbrev pub comparisons : List Basis
+comparisons = Greater ∷ Less ∷ GreaterOrEqual ∷ LessOrEqual ∷ []
+
+-- the functions on bools
+abbrev pub logic : List Basis
+logic = Not ∷ And ∷ Or ∷ Xor ∷ []
+
+-- the functions on the bits of ints
+abbrev pub bitwise : List Basis
+bitwise = BitAnd ∷ BitOr ∷ BitXor ∷ ShiftLeft ∷ ShiftRight ∷ Complement ∷ []
+
+-- the functions that print and read
+abbrev pub exchange : List Basis
+exchange = PrintInt ∷ PrintBool ∷ PrintSym ∷ PrintUnit ∷ PrintNewline ∷ PrintAscii ∷ Input ∷ []
+
 -- all functions in order
 abbrev pub everyFunction : List Basis
-everyFunction =
-    EqualInt ∷ EqualBool ∷ EqualSym ∷ EqualUnit ∷
-    Add ∷ Subtract ∷ Multiply ∷ Divide ∷ Remainder ∷ UnsignedDivide ∷ UnsignedRemainder ∷ Negate ∷
-    Greater ∷ Less ∷ GreaterOrEqual ∷ LessOrEqual ∷
-    Not ∷ And ∷ Or ∷ Xor ∷
-    BitAnd ∷ BitOr ∷ BitXor ∷ ShiftLeft ∷ ShiftRight ∷ Complement ∷
-    PrintInt ∷ PrintBool ∷ PrintSym ∷ PrintUnit ∷ PrintNewline ∷ PrintAscii ∷
-    Input ∷ []
+everyFunction = equalities ++ (arithmetic ++ (comparisons ++ (logic ++ (bitwise ++ (exchange)))))
 
 -- the function with this number, none from 33 on
 abbrev pub numbered : ℕ → Option Basis

@@ -4,7 +4,7 @@ ghost use mathlib.Core.Path.{_≡_};
 ghost use lib.IntN.{negsuc, _+ℤ_, _-ℤ_, _*ℤ_, negℤ};
 ghost use Rattle.basis.specs.ArithmeticLaws.{Wraps, QuotientLaw, RemainderLaw, UnsignedQuotientLaw, UnsignedRemainderLaw, LeftShiftLaw, RightShiftLaw};
 ghost use Rattle.basis.specs.Arithmetic.{sum, difference, product, negation, quotient, remainderOf, unsignedQuotient, unsignedRemainderOf, conjunction, disjunction, exclusion, complementOf, leftShift, rightShift};
-use crate::fault::ArithmeticFault;
+use super::ArithmeticFault;
 
 pub fn add(a: i32, b: i32) -> i32
     ensures value { λ r. ⌜ r ≡ sum a b ⌝ }

@@ -1,7 +1,12 @@
 // The functions of the initial basis: their numbers, names and types, what each answers, and what each prints.
 mod arithmetic;
+mod basis_type;
 mod fault;
 mod function;
+mod naming;
+mod parameters;
+mod span;
+mod types;
 
 pub use arithmetic::add;
 pub use arithmetic::bit_and;
@@ -17,5 +22,15 @@ pub use arithmetic::shift_right;
 pub use arithmetic::subtract;
 pub use arithmetic::unsigned_divide;
 pub use arithmetic::unsigned_remainder;
+pub use basis_type::BasisType;
 pub use fault::ArithmeticFault;
 pub use function::Basis;
+pub use naming::find;
+pub use naming::name_in;
+pub use naming::name_of;
+pub use naming::names;
+pub use naming::span_of;
+pub use parameters::Parameters;
+pub use span::Span;
+pub use types::parameters_of;
+pub use types::result_of;
