@@ -4,3 +4,4 @@ pub mod Types
 pub mod Faults
 pub mod Arithmetic
 pub mod ArithmeticLaws
+pub mod Calls

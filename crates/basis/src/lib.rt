@@ -1,13 +1,18 @@
 // The functions of the initial basis: their numbers, names and types, what each answers, and what each prints.
+mod applied;
 mod arithmetic;
 mod basis_type;
+mod calls;
 mod fault;
 mod function;
 mod naming;
 mod parameters;
+mod plain;
+mod print;
 mod span;
 mod types;
 
+pub use applied::Applied;
 pub use arithmetic::add;
 pub use arithmetic::bit_and;
 pub use arithmetic::bit_or;
@@ -23,6 +28,9 @@ pub use arithmetic::subtract;
 pub use arithmetic::unsigned_divide;
 pub use arithmetic::unsigned_remainder;
 pub use basis_type::BasisType;
+pub use calls::apply_none;
+pub use calls::apply_one;
+pub use calls::apply_two;
 pub use fault::ArithmeticFault;
 pub use function::Basis;
 pub use naming::find;
@@ -31,6 +39,8 @@ pub use naming::name_of;
 pub use naming::names;
 pub use naming::span_of;
 pub use parameters::Parameters;
+pub use plain::Plain;
+pub use print::Print;
 pub use span::Span;
 pub use types::parameters_of;
 pub use types::result_of;
