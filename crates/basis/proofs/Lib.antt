@@ -2,3 +2,4 @@ pub mod Wrapping
 pub mod Divisions
 pub mod Shifts
 pub mod LookUps
+pub mod Decimals

@@ -5,3 +5,5 @@ pub mod Faults
 pub mod Arithmetic
 pub mod ArithmeticLaws
 pub mod Calls
+pub mod Printing
+pub mod PrintingLaws
