@@ -3,3 +3,4 @@ pub mod Divisions
 pub mod Shifts
 pub mod LookUps
 pub mod Decimals
+pub mod Symbols

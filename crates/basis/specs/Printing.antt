@@ -1,14 +1,12 @@
 -- The bytes that the basis prints.
-use mathlib.Core.Path.{_≡_}
-use mathlib.Core.Bool.{Bool, true, false, cond, _||_}
+use mathlib.Core.Bool.{Bool, true, false, not, cond, _&&_}
 use mathlib.Core.List.{List, [], _∷_, _++_}
-use Prim.Native.Nat.{ℕ, suc, _+_, _-_, _*_, _<_}
+use Prim.Native.Nat.{ℕ}
 use lib.Chars.{codes}
 use lib.Dec.{eqb, leb}
-use lib.IntN.{ℤ, pos, negsuc}
-use lib.ListN.{length, getD, drop}
+use lib.IntN.{ℤ}
+use lib.ListN.{length, drop}
 use Rattle.std.specs.Written.{signed}
-use Rattle.std.specs.shelf.Text.{allDigits}
 use Rattle.std.specs.declared.option.Option.{Option}
 use Rattle.std.specs.declared.option.Option.the-variants.{Some, None}
 use Rattle.basis.specs.declared.print.Print.{Print}
@@ -22,12 +20,15 @@ abbrev pub boolText : Bool → List ℕ
 boolText true = codes "true"
 boolText false = codes "false"
 
+-- whether a byte between the quotes of a literal goes: a backslash that no backslash before it escapes
+abbrev pub goes : Bool → ℕ → Bool
+goes escaped b = not escaped && eqb b 92
+
 -- The text of a symbol, from the bytes between the quotes of its literal: a backslash goes, and the byte after it stays. The Bool
 -- says that a backslash went just before.
 abbrev pub unescapedAfter : Bool → List ℕ → List ℕ
 unescapedAfter escaped [] = []
-unescapedAfter true (b ∷ s) = b ∷ unescapedAfter false s
-unescapedAfter false (b ∷ s) = elim (eqb b 92) [ true ↦ unescapedAfter true s | false ↦ b ∷ unescapedAfter false s ]
+unescapedAfter escaped (b ∷ s) = elim (goes escaped b) [ true ↦ unescapedAfter true s | false ↦ b ∷ unescapedAfter false s ]
 
 abbrev pub unescaped : List ℕ → List ℕ
 unescaped s = unescapedAfter false s

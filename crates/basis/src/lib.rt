@@ -12,6 +12,7 @@ mod parameters;
 mod plain;
 mod print;
 mod span;
+mod symbol;
 mod types;
 
 pub use applied::Applied;
@@ -46,5 +47,7 @@ pub use parameters::Parameters;
 pub use plain::Plain;
 pub use print::Print;
 pub use span::Span;
+pub use symbol::symbol_len;
+pub use symbol::write_symbol;
 pub use types::parameters_of;
 pub use types::result_of;
