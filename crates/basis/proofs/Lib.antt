@@ -4,3 +4,4 @@ pub mod Shifts
 pub mod LookUps
 pub mod Decimals
 pub mod Symbols
+pub mod Typing

@@ -5,5 +5,6 @@ pub mod Faults
 pub mod Arithmetic
 pub mod ArithmeticLaws
 pub mod Calls
+pub mod CallLaws
 pub mod Printing
 pub mod PrintingLaws

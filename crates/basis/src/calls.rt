@@ -2,7 +2,7 @@
 // anything up.
 ghost use mathlib.Core.Path.{_≡_};
 ghost use mathlib.Core.List.{[], _∷_};
-ghost use lib.IntN.{ℤ};
+ghost use Rattle.basis.specs.CallLaws.{Typed};
 ghost use Rattle.basis.specs.Calls.{applied, lowByte};
 ghost use Rattle.basis.specs.Calls.{answer as answerOf};
 ghost use Rattle.basis.specs.declared.plain.Plain.the-variants.{Int, Bool, Sym, Unit};
@@ -371,7 +371,8 @@ fn on_unit(basis: Basis) -> Applied
 
 // The function on no argument.
 pub fn apply_none(basis: Basis) -> Applied
-    ensures { λ r. ⌜ r ≡ applied basis ([]) ⌝ }
+    ensures value { λ r. ⌜ r ≡ applied basis [] ⌝ }
+    ensures law { λ r. ⌜ Typed basis [] r ⌝ }
 {
     match basis {
         Basis::PrintNewline => Applied::Prints(Print::Newline),
@@ -412,7 +413,8 @@ pub fn apply_none(basis: Basis) -> Applied
 
 // The function on one argument.
 pub fn apply_one(basis: Basis, argument: Plain) -> Applied
-    ensures { λ r. ⌜ r ≡ applied basis (argument ∷ []) ⌝ }
+    ensures value { λ r. ⌜ r ≡ applied basis (argument ∷ []) ⌝ }
+    ensures law { λ r. ⌜ Typed basis (argument ∷ []) r ⌝ }
 {
     match argument {
         Plain::Int(a) => on_int(basis, a),
@@ -424,7 +426,8 @@ pub fn apply_one(basis: Basis, argument: Plain) -> Applied
 
 // The function on two arguments.
 pub fn apply_two(basis: Basis, first: Plain, second: Plain) -> Applied
-    ensures { λ r. ⌜ r ≡ applied basis (first ∷ second ∷ []) ⌝ }
+    ensures value { λ r. ⌜ r ≡ applied basis (first ∷ second ∷ []) ⌝ }
+    ensures law { λ r. ⌜ Typed basis (first ∷ second ∷ []) r ⌝ }
 {
     match (first, second) {
         (Plain::Int(a), Plain::Int(b)) => on_ints(basis, a, b),
