@@ -1,26 +1,18 @@
 -- The laws of the quotients and the remainders.
 use mathlib.Core.Path.{_≡_, refl, sym, ap, _∙_}
-use Prim.Native.Nat.{ℕ, zero, suc, _+_, _-_, _*_, _/_, _%_, _^_, _≤_, _<_}
-use native.Mathlib.Nat.{div-le-self, div-lt-self, div-one, mod-le, mod-lt, zero-mul}
+use Prim.Native.Nat.{ℕ, zero, suc, _+_, _-_, _*_, _/_, _%_, _≤_, _<_}
+use native.Mathlib.Nat.{div-le-self, div-lt-self, div-one, mod-le, zero-mul}
 use native.Mathlib.Omega.{arith}
-use lib.Dec.{eqb}
 use lib.IntN.{ℤ, pos, negsuc, natAbs, _+ℤ_, _*ℤ_, negℤ, negℤ-+ℤ}
 use lib.Signed.{mag, quotZ, remZ, _≤ℤ_}
 use mir.Syntax.{w32}
 use mir.Val.{SFits, ofZ, toZ}
 use mir.ValLaws.{ofZ-fits}
 use Rattle.std.proofs.shelf.Bits.{div-add-mod', mod-below}
-use Rattle.std.proofs.shelf.Tests.{cond-false, ne-eqb}
 use Rattle.std.proofs.shelf.Signed.{ints, ofZ-toZ, wrapped-fits}
 use Rattle.std.specs.shelf.Signed.{wrapped}
-use Rattle.std.specs.declared.result.Result.the-variants.{Ok, Err}
-use Rattle.basis.specs.Arithmetic.{divided}
-use Rattle.basis.specs.declared.fault.ArithmeticFault.the-variants.{ZeroDivisor}
+use Rattle.std.specs.declared.result.Result.the-variants.{Ok}
 use Rattle.basis.specs.ArithmeticLaws.{Divides, Overflows, QuotientLaw, RemainderLaw, UnsignedQuotientLaw, UnsignedRemainderLaw}
-
-pub zero-bits : (b : ℤ) → SFits w32 b → ofZ w32 b ≡ 0 → b ≡ pos 0
-zero-bits (pos n) f e = ap pos e
-zero-bits (negsuc n) f e = absurd (omega (arith, f .sfits))
 
 -- negative products and remainders
 minus-times : (n d : ℕ) → negℤ (pos n) *ℤ pos d ≡ negℤ (pos (n * d))
@@ -87,10 +79,6 @@ over a b o = rw (o .least, o .minus-one) refl
 module _ (a b : ℤ) (f : SFits w32 a) (g : SFits w32 b) (h : ofZ w32 b ≡ 0 → ⊥) where
   nonzero : b ≡ pos 0 → ⊥
   nonzero e = h (ap (ofZ w32) e)
-
-  -- no other divisor than 0 is refused
-  pub allowed : (x y : ℤ) → x ≡ y → Ok x ≡ divided b y
-  allowed x y e = ap Ok e ∙ sym (cond-false (eqb (ofZ w32 b) 0) (Err ZeroDivisor) (Ok y) (ne-eqb (ofZ w32 b) 0 h))
 
   pub quotient-law : (q : ℤ) → q ≡ wrapped w32 (quotZ a b) → QuotientLaw a b (Ok q)
   quotient-law q e = (

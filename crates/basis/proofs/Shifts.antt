@@ -1,28 +1,21 @@
 -- The laws of the shifts.
-use mathlib.Core.Path.{_≡_, refl, sym, ap, _∙_}
-use Prim.Native.Nat.{ℕ, suc, _+_, _-_, _*_, _/_, _%_, _^_, _≤_, _<_}
+use mathlib.Core.Path.{_≡_, refl, sym, ap}
+use Prim.Native.Nat.{ℕ, _+_, _-_, _*_, _%_, _^_, _<_}
 use native.Mathlib.Omega.{arith}
-use lib.Dec.{ltb}
-use lib.IntN.{ℤ, pos, negsuc, _+ℤ_, _*ℤ_, negℤ}
+use lib.IntN.{ℤ, pos, negsuc, _+ℤ_, _*ℤ_}
 use lib.Signed.{shrZ}
 use mir.Syntax.{w32}
 use mir.Val.{SFits, ofZ}
 use Rattle.std.proofs.shelf.Bits.{div-add-mod', mod-below, pow-pos}
 use Rattle.std.proofs.shelf.Signed.{ints}
-use Rattle.std.proofs.shelf.Tests.{cond-true, lt-ltb}
 use Rattle.std.specs.shelf.Signed.{wrapped}
-use Rattle.std.specs.declared.result.Result.the-variants.{Ok, Err}
-use Rattle.basis.specs.Arithmetic.{shifted}
-use Rattle.basis.specs.declared.fault.ArithmeticFault.the-variants.{BadShift}
-use Rattle.basis.specs.ArithmeticLaws.{Amount, Wraps, LeftShiftLaw, RightShiftLaw}
-use Rattle.basis.proofs.Wrapping.{wraps}
+use Rattle.std.specs.declared.result.Result.the-variants.{Ok}
+use Rattle.basis.specs.ArithmeticLaws.{Amount, LeftShiftLaw, RightShiftLaw}
+use Rattle.basis.proofs.Wrapping.{wraps-law}
 
-pub amount-of : (z : ℤ) → SFits w32 z → ofZ w32 z < 32 → Amount z (ofZ w32 z)
+amount-of : (z : ℤ) → SFits w32 z → ofZ w32 z < 32 → Amount z (ofZ w32 z)
 amount-of (pos n) f h = record { is = refl; small = h }
 amount-of (negsuc n) f h = absurd (omega (arith, f .sfits))
-
-pub no-amount : (z : ℤ) → 32 ≤ ofZ w32 z → (k : ℕ) → Amount z k → ⊥
-no-amount z h k a = let e = ap (ofZ w32) (a .is) in omega (arith, e, a .small)
 
 -- rounded down
 floored : (a : ℤ) (m : ℕ) → 0 < m → (r : ℕ) × (r < m) × (a ≡ (shrZ a m *ℤ pos m) +ℤ pos r)
@@ -30,12 +23,8 @@ floored (pos a) m h = (a % m, mod-below a m h, ap pos (sym (div-add-mod' a m)))
 floored (negsuc a) m h = (m - 1 - a % m, omega arith, let e = div-add-mod' a m in let l = mod-below a m h in omega (arith, ints))
 
 module _ (a z r : ℤ) (f : SFits w32 z) (h : ofZ w32 z < 32) where
-  -- an amount below 32 is allowed
-  pub allowed : (x : ℤ) → r ≡ x → Ok r ≡ shifted z x
-  allowed x e = ap Ok e ∙ sym (cond-true (ltb (ofZ w32 z) 32) (Ok x) (Err BadShift) (lt-ltb (ofZ w32 z) 32 h))
-
   pub left-shift-law : r ≡ wrapped w32 (a *ℤ pos (2 ^ ofZ w32 z)) → LeftShiftLaw a z (Ok r)
-  left-shift-law e = (ofZ w32 z, amount-of z f h, rw e (wraps (a *ℤ pos (2 ^ ofZ w32 z))))
+  left-shift-law e = (ofZ w32 z, amount-of z f h, wraps-law (a *ℤ pos (2 ^ ofZ w32 z)) r e)
 
   pub right-shift-law : r ≡ shrZ a (2 ^ ofZ w32 z) → RightShiftLaw a z (Ok r)
   right-shift-law e = (ofZ w32 z, amount-of z f h, rw e (floored a (2 ^ ofZ w32 z) (pow-pos (ofZ w32 z))))

@@ -1,8 +1,8 @@
 -- A symbol's text, byte by byte.
-use mathlib.Core.Path.{_≡_, refl, sym, ap, subst, _∙_}
-use mathlib.Core.Bool.{Bool, true, false, not, cond, _&&_, _||_}
+use mathlib.Core.Path.{_≡_, refl, sym, ap, _∙_}
+use mathlib.Core.Bool.{Bool, true, false, cond, _||_}
 use mathlib.Core.List.{List, [], _∷_, _++_}
-use Prim.Native.Nat.{ℕ, suc, _+_, _-_, _≤_, _<_}
+use Prim.Native.Nat.{ℕ, _+_, _-_, _≤_, _<_}
 use native.Mathlib.Numerals.{add-one}
 use native.Mathlib.Omega.{arith}
 use lib.Dec.{eqb}
@@ -27,9 +27,6 @@ pub record Unescaping (body : List ℕ) (size : ℕ) (before : List ℕ) (e : Bo
   pub room : size ≤ length out
   pub within : at ≤ size
   pub behind : drop size out ≡ drop size before
-
-pub start : (body : List ℕ) (size : ℕ) (out : List ℕ) → size ≡ length (unescaped body) → size ≤ length out → Unescaping body size out false 0 0 out
-start body size out e h = record { text = refl; sized = e; room = h; within = omega arith; behind = refl }
 
 module _ (body : List ℕ) (size : ℕ) (before : List ℕ) (e : Bool) (i at : ℕ) (out : List ℕ) (u : Unescaping body size before e i at out) (lt : i < length body) (t : Bool) (g : t ≡ goes e (getD body i 0)) where
   pub skipped : t ≡ true → Unescaping body size before t (i + 1) at out

@@ -10,7 +10,7 @@ use Rattle.std.specs.declared.result.Result.{Result}
 use Rattle.std.specs.declared.result.Result.the-variants.{Ok, Err}
 use Rattle.basis.specs.Arithmetic.{quotient, remainderOf, unsignedQuotient, unsignedRemainderOf, leftShift, rightShift}
 use Rattle.basis.specs.Calls.{answer, asInt, asBool, asSym, asUnit, none, one, two, applied}
-use Rattle.basis.specs.CallLaws.{typeOf, Gives, Suits, Typed}
+use Rattle.basis.specs.CallLaws.{typeOf, Gives, Suits}
 use Rattle.basis.specs.Types.{parametersOf, resultOf, listed}
 use Rattle.basis.specs.declared.applied.Applied.{Applied}
 use Rattle.basis.specs.declared.applied.Applied.the-variants.{Bool, Prints, Mismatch}
@@ -125,5 +125,10 @@ meets PrintNewline s = meets-none type.Unit _ refl s
 meets PrintAscii s = meets-one asInt type.Int takes-int type.Unit _ (λ _. refl) s
 meets Input s = meets-none type.Int _ refl s
 
-pub typed : (b : Basis) (s : List Plain) (a : Applied) → a ≡ applied b s → Typed b s a
-typed b s a e = let m = meets b s in record { suits = λ h. subst (Gives (resultOf b)) (sym e) (m .0 h); other = λ h. e ∙ m .1 h }
+-- on arguments of the parameters' types a call gives what the function's type says
+pub gives : (b : Basis) (s : List Plain) → Suits b s → Gives (resultOf b) (applied b s)
+gives b s h = meets b s .0 h
+
+-- and on all others there is a mismatch
+pub mismatch : (b : Basis) (s : List Plain) → (Suits b s → ⊥) → applied b s ≡ Mismatch
+mismatch b s h = meets b s .1 h

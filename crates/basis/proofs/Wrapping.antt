@@ -1,12 +1,12 @@
 -- What wrapping to 32 bits answers.
-use mathlib.Core.Path.{_≡_, refl, sym, ap, _∙_}
+use mathlib.Core.Path.{_≡_, sym, ap, _∙_}
 use mathlib.Core.Logic.{⊎-elim}
 use Prim.Native.Nat.{ℕ, zero, suc, _+_, _-_, _*_, _/_, _%_, _^_, _≤_, _<_}
 use native.Mathlib.Nat.{mod-eq-of-lt, mod-lt, div-le-self}
 use native.Mathlib.Omega.{arith}
 use lib.Dec.{lit<, ltb}
-use lib.IntN.{ℤ, pos, negsuc, natAbs, _+ℤ_, _-ℤ_, _*ℤ_, negℤ}
-use lib.Signed.{mag, quotZ, _≤ℤ_}
+use lib.IntN.{ℤ, pos, negsuc, _+ℤ_, _*ℤ_, negℤ}
+use lib.Signed.{mag, quotZ}
 use mir.Syntax.{w32}
 use mir.Val.{SFits, ofZ, toZ}
 use mir.ValLaws.{ofZ-fits}
@@ -30,8 +30,8 @@ congruent (negsuc n) =
     let r = read (4294967295 - n % 4294967296) (omega arith) in
     (r .0, n / 4294967296 + 1, omega (arith, ints, r .1))
 
-pub wraps : (z : ℤ) → Wraps z (wrapped w32 z)
-wraps z = let f = sfits-wrapped w32 z in record { least = omega (arith, ints); greatest = omega (arith, ints); congruent = congruent z }
+pub wraps-law : (z r : ℤ) → r ≡ wrapped w32 z → Wraps z r
+wraps-law z r e = let f = sfits-wrapped w32 z in rw e (record { least = omega (arith, ints); greatest = omega (arith, ints); congruent = congruent z })
 
 -- a number that is not far outside 32 bits is wrapped by reading its bits
 pub wrapped-near : (z : ℤ) → mag z < 4294967296 → toZ w32 (ofZ w32 z) ≡ wrapped w32 z

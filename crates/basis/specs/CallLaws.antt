@@ -1,7 +1,6 @@
 -- What the type of a function tells of its calls.
 use mathlib.Core.Path.{_≡_}
 use mathlib.Core.List.{List, map}
-use Rattle.basis.specs.Calls.{applied}
 use Rattle.basis.specs.Types.{parametersOf, resultOf, listed}
 use Rattle.basis.specs.declared.applied.Applied.{Applied}
 use Rattle.basis.specs.declared.applied.Applied.the-variants.{Int, Bool, Prints, Reads, Faults, Mismatch}
@@ -29,8 +28,3 @@ Gives t Mismatch = ⊥
 -- arguments of the parameters' types
 abbrev pub Suits : Basis → List Plain → Type 0
 Suits b s = map typeOf s ≡ listed (parametersOf b)
-
--- on these a call gives what the function's type says, and on all others there is a mismatch
-pub record Typed (b : Basis) (s : List Plain) (a : Applied) : Type 0 where
-  pub suits : Suits b s → Gives (resultOf b) a
-  pub other : (Suits b s → ⊥) → a ≡ Mismatch

@@ -11,7 +11,6 @@ use Rattle.std.specs.declared.result.Result.the-variants.{Ok, Err}
 use Rattle.basis.specs.Arithmetic.{bitsOf, sum, difference, product, negation, quotient, remainderOf, unsignedQuotient, unsignedRemainderOf, conjunction, disjunction, exclusion, complementOf, leftShift, rightShift}
 use Rattle.basis.specs.declared.applied.Applied.{Applied}
 use Rattle.basis.specs.declared.applied.Applied.the-variants.{Int, Bool, Prints, Reads, Faults, Mismatch}
-use Rattle.basis.specs.declared.basis_type.BasisType.{BasisType}
 use Rattle.basis.specs.declared.basis_type.BasisType.the-variants as type
 use Rattle.basis.specs.declared.fault.ArithmeticFault.{ArithmeticFault}
 use Rattle.basis.specs.declared.function.Basis.{Basis}

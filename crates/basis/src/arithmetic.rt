@@ -6,6 +6,9 @@ ghost use Rattle.basis.specs.ArithmeticLaws.{Wraps, QuotientLaw, RemainderLaw,
 ghost use Rattle.basis.specs.Arithmetic.{sum, difference, product, negation, quotient, remainderOf, unsignedQuotient, unsignedRemainderOf, conjunction, disjunction, exclusion, complementOf, leftShift, rightShift};
 use super::ArithmeticFault;
 
+// An int has so many bits; it is shifted by less than that.
+const PLACES: u32 = 32;
+
 pub fn add(a: i32, b: i32) -> i32
     ensures value { λ r. ⌜ r ≡ sum a b ⌝ }
     ensures law { λ r. ⌜ Wraps (a +ℤ b) r ⌝ }
@@ -94,7 +97,7 @@ pub fn shift_left(a: i32, amount: i32) -> Result<i32, ArithmeticFault>
     ensures law { λ r. ⌜ LeftShiftLaw a amount r ⌝ }
 {
     let places = amount.cast_unsigned();
-    if places < 32 { Ok(a << places) } else { Err(ArithmeticFault::BadShift) }
+    if places < PLACES { Ok(a << places) } else { Err(ArithmeticFault::BadShift) }
 }
 
 pub fn shift_right(a: i32, amount: i32) -> Result<i32, ArithmeticFault>
@@ -102,5 +105,5 @@ pub fn shift_right(a: i32, amount: i32) -> Result<i32, ArithmeticFault>
     ensures law { λ r. ⌜ RightShiftLaw a amount r ⌝ }
 {
     let places = amount.cast_unsigned();
-    if places < 32 { Ok(a >> places) } else { Err(ArithmeticFault::BadShift) }
+    if places < PLACES { Ok(a >> places) } else { Err(ArithmeticFault::BadShift) }
 }

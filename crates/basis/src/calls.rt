@@ -2,7 +2,6 @@
 // anything up.
 ghost use mathlib.Core.Path.{_≡_};
 ghost use mathlib.Core.List.{[], _∷_};
-ghost use Rattle.basis.specs.CallLaws.{Typed};
 ghost use Rattle.basis.specs.Calls.{applied, lowByte};
 ghost use Rattle.basis.specs.Calls.{answer as answerOf};
 ghost use Rattle.basis.specs.declared.plain.Plain.the-variants.{Int, Bool, Sym, Unit};
@@ -371,8 +370,7 @@ fn on_unit(basis: Basis) -> Applied
 
 // The function on no argument.
 pub fn apply_none(basis: Basis) -> Applied
-    ensures value { λ r. ⌜ r ≡ applied basis [] ⌝ }
-    ensures law { λ r. ⌜ Typed basis [] r ⌝ }
+    ensures { λ r. ⌜ r ≡ applied basis [] ⌝ }
 {
     match basis {
         Basis::PrintNewline => Applied::Prints(Print::Newline),
@@ -413,8 +411,7 @@ pub fn apply_none(basis: Basis) -> Applied
 
 // The function on one argument.
 pub fn apply_one(basis: Basis, argument: Plain) -> Applied
-    ensures value { λ r. ⌜ r ≡ applied basis (argument ∷ []) ⌝ }
-    ensures law { λ r. ⌜ Typed basis (argument ∷ []) r ⌝ }
+    ensures { λ r. ⌜ r ≡ applied basis (argument ∷ []) ⌝ }
 {
     match argument {
         Plain::Int(a) => on_int(basis, a),
@@ -426,8 +423,7 @@ pub fn apply_one(basis: Basis, argument: Plain) -> Applied
 
 // The function on two arguments.
 pub fn apply_two(basis: Basis, first: Plain, second: Plain) -> Applied
-    ensures value { λ r. ⌜ r ≡ applied basis (first ∷ second ∷ []) ⌝ }
-    ensures law { λ r. ⌜ Typed basis (first ∷ second ∷ []) r ⌝ }
+    ensures { λ r. ⌜ r ≡ applied basis (first ∷ second ∷ []) ⌝ }
 {
     match (first, second) {
         (Plain::Int(a), Plain::Int(b)) => on_ints(basis, a, b),

@@ -43,15 +43,15 @@ pub enum Basis {
 }
 
 impl Basis {
-    pub fn number(self) -> u8
+    pub fn number(self) -> u32
         ensures value { λ r. ⌜ r ≡ numberOf self ⌝ }
         ensures back { λ r. ⌜ numbered r ≡ Some self ⌝ }
     {
-        self as u8
+        self as u32
     }
 
     // The function with this number.
-    pub fn from_number(n: u8) -> Option<Basis>
+    pub fn from_number(n: u32) -> Option<Basis>
         ensures value { λ r. ⌜ r ≡ numbered n ⌝ }
         ensures back { λ r. ⌜ Cases r (33 ≤ n) (λ b. numberOf b ≡ n) ⌝ }
     {
@@ -77,7 +77,7 @@ impl Basis {
     }
 
     // The same for the numbers from 16 on: one `match` on 33 numbers is more than the check takes.
-    fn from_sixteen_on(n: u8) -> Option<Basis>
+    fn from_sixteen_on(n: u32) -> Option<Basis>
         ensures { λ r. ⌜ (16 ≤ n → (r ≡ numbered n) × Cases r (33 ≤ n) (λ b. numberOf b ≡ n)) ⌝ }
     {
         match n {

@@ -1,13 +1,19 @@
 // The type of each function of the basis.
 ghost use mathlib.Core.Path.{_≡_};
-ghost use Rattle.basis.specs.Types.{parametersOf, resultOf};
+ghost use mathlib.Core.List.{List, map};
+ghost use Rattle.basis.specs.CallLaws.{typeOf, Gives, Suits};
+ghost use Rattle.basis.specs.Calls.{applied};
+ghost use Rattle.basis.specs.Types.{parametersOf, resultOf, listed};
+ghost use Rattle.basis.specs.declared.applied.Applied.the-variants.{Mismatch};
+use super::Plain;
 use super::Basis;
 use super::BasisType;
 use super::Parameters;
 
 // The types of the function's parameters.
 pub fn parameters_of(basis: Basis) -> Parameters
-    ensures { λ r. ⌜ r ≡ parametersOf basis ⌝ }
+    ensures value { λ r. ⌜ r ≡ parametersOf basis ⌝ }
+    ensures law { λ r. ⌜ ((s : List Plain) → (map typeOf s ≡ listed r → ⊥) → applied basis s ≡ Mismatch) ⌝ }
 {
     match basis {
         Basis::EqualInt
@@ -48,7 +54,8 @@ pub fn parameters_of(basis: Basis) -> Parameters
 
 // The type of the function's result.
 pub fn result_of(basis: Basis) -> BasisType
-    ensures { λ r. ⌜ r ≡ resultOf basis ⌝ }
+    ensures value { λ r. ⌜ r ≡ resultOf basis ⌝ }
+    ensures law { λ r. ⌜ ((s : List Plain) → Suits basis s → Gives r (applied basis s)) ⌝ }
 {
     match basis {
         Basis::EqualInt

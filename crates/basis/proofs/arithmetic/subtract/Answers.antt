@@ -1,12 +1,8 @@
-use mathlib.Core.Path.{sym, subst}
+use borrow.Author.Needs.{needs}
 use lib.IntN.{_-ℤ_}
-use mir.Syntax.{w32}
-use Rattle.std.proofs.shelf.Signed.{wrapping-sub-is}
-use Rattle.basis.specs.ArithmeticLaws.{Wraps}
-use Rattle.basis.proofs.Wrapping.{wraps}
+use Rattle.std.proofs.shelf.Signed.{wraps}
+use Rattle.basis.proofs.Wrapping.{wraps-law}
 use Rattle.basis.proofs.arithmetic.subtract.Needs as need
 
 pub returns : need.returns
-returns c =
-    let e = wrapping-sub-is w32 (c .args .a) (c .args .b) (c .fits .a) (c .fits .b) in
-    record { value = e; law = subst (Wraps (c .args .a -ℤ c .args .b)) (sym e) (wraps (c .args .a -ℤ c .args .b)) }
+returns c = record { value = search (needs, wraps); law = wraps-law (c .args .a -ℤ c .args .b) _ (search (needs, wraps)) }

@@ -1,4 +1,3 @@
-use Prim.Native.Nat.{_≤_}
 use Rattle.basis.proofs.Decimals.{Written}
 use Rattle.basis.proofs.decimal.digits.Given as given
 

@@ -1,14 +1,13 @@
-use mathlib.Core.Path.{_≡_, sym, ap, subst, _∙_}
+use mathlib.Core.Path.{sym, ap, subst, _∙_}
 use mathlib.Core.List.{_++_}
-use Prim.Native.Nat.{_≤_, _+_}
+use Prim.Native.Nat.{_+_}
 use native.Mathlib.Omega.{arith}
-use borrow.Author.Needs.{needs}
 use lib.Dec.{leb}
 use lib.ListN.{length, drop}
 use Rattle.std.proofs.shelf.Tests.{cond-true, cond-false, le-leb, lt-leb}
 use Rattle.std.specs.declared.option.Option.the-variants.{Some, None}
 use Rattle.basis.specs.Printing.{unescaped}
-use Rattle.basis.proofs.Symbols.{Unescaping, start, skipped, place, written, end, unescapes}
+use Rattle.basis.proofs.Symbols.{Unescaping, skipped, place, written, end, unescapes}
 use Rattle.basis.proofs.symbol.write_symbol.Needs as need
 use Rattle.basis.proofs.symbol.write_symbol.Needs.{then-not-escaped, else-not-escaped}
 
