@@ -29,8 +29,12 @@ pub record Written (n rest at : ℕ) (room : List ℕ) : Type 0 where
 
 pub start : (n : ℕ) (room : List ℕ) → n < 2 ^ 32 → length room ≡ 11 → Written n n 11 room
 start n room h e = record {
-    text = ap (λ s. decimal n ++ s) (drop-all 11 room (omega (arith, e))) ∙ append-nil (decimal n);
-    within = omega arith; whole = e; small = h; left = h }
+  text = ap (λ s. decimal n ++ s) (drop-all 11 room (omega (arith, e))) ∙ append-nil (decimal n);
+  within = omega arith;
+  whole = e;
+  small = h;
+  left = h;
+}
 
 module _ (n rest at : ℕ) (room : List ℕ) (w : Written n rest at room) where
   -- one digit is to come at least, and there are ten at most
@@ -51,14 +55,15 @@ module _ (n rest at : ℕ) (room : List ℕ) (w : Written n rest at room) where
 
   pub again : 10 ≤ rest → Written n (rest / 10) (at - 1) (set room (at - 1) (48 + rest % 10))
   again h = record {
-      text = ap (λ s. decimal (rest / 10) ++ s) (put (48 + rest % 10))
+    text = ap (λ s. decimal (rest / 10) ++ s) (put (48 + rest % 10))
         ∙ sym (append-assoc (decimal (rest / 10)) ((48 + rest % 10) ∷ []) (drop at room))
         ∙ ap (λ s. s ++ drop at room) (sym (decimal-step rest h (omega (arith, w .left))))
         ∙ w .text;
-      within = omega (arith, w .within);
-      whole = length-set room (at - 1) (48 + rest % 10) ∙ w .whole;
-      small = w .small;
-      left = omega (arith, w .left) }
+    within = omega (arith, w .within);
+    whole = length-set room (at - 1) (48 + rest % 10) ∙ w .whole;
+    small = w .small;
+    left = omega (arith, w .left);
+  }
 
   pub last : rest < 10 → drop (at - 1) (set room (at - 1) (48 + rest)) ≡ decimal n
   last h = put (48 + rest) ∙ ap (λ s. s ++ drop at room) (sym (decimal-digit rest h)) ∙ w .text

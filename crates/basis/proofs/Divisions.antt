@@ -41,26 +41,30 @@ parts a q d e = ap (λ n. negℤ (pos n)) (sym e) ∙ negℤ-+ℤ (pos (q * d)) 
 pub divides : (a b : ℤ) → (b ≡ pos 0 → ⊥) → Divides a b (quotZ a b) (remZ a b)
 divides (pos a) (pos zero) h = absurd (h refl)
 divides (pos a) (pos (suc b)) h = record {
-    whole = ap pos (sym (div-add-mod' a (suc b)));
-    small = mod-below a (suc b) (omega arith);
-    above = λ _. omega (arith, ints);
-    below = λ p. omega (arith, ints, mod-le a (suc b)) }
+  whole = ap pos (sym (div-add-mod' a (suc b)));
+  small = mod-below a (suc b) (omega arith);
+  above = λ _. omega (arith, ints);
+  below = λ p. omega (arith, ints, mod-le a (suc b));
+}
 divides (pos a) (negsuc b) h = record {
-    whole = ap pos (sym (div-add-mod' a (suc b))) ∙ ap (λ x. x +ℤ pos (a % suc b)) (sym (minus-times-minus (a / suc b) b));
-    small = mod-below a (suc b) (omega arith);
-    above = λ _. omega (arith, ints);
-    below = λ p. omega (arith, ints, mod-le a (suc b)) }
+  whole = ap pos (sym (div-add-mod' a (suc b))) ∙ ap (λ x. x +ℤ pos (a % suc b)) (sym (minus-times-minus (a / suc b) b));
+  small = mod-below a (suc b) (omega arith);
+  above = λ _. omega (arith, ints);
+  below = λ p. omega (arith, ints, mod-le a (suc b));
+}
 divides (negsuc a) (pos zero) h = absurd (h refl)
 divides (negsuc a) (pos (suc b)) h = record {
-    whole = parts a (suc a / suc b) (suc b) (div-add-mod' (suc a) (suc b)) ∙ ap (λ x. x +ℤ negℤ (pos (suc a % suc b))) (sym (minus-times (suc a / suc b) (suc b)));
-    small = omega (arith, abs-minus (suc a % suc b), mod-below (suc a) (suc b) (omega arith));
-    above = λ p. absurd (p .le);
-    below = λ _. minus-below (suc a % suc b) }
+  whole = parts a (suc a / suc b) (suc b) (div-add-mod' (suc a) (suc b)) ∙ ap (λ x. x +ℤ negℤ (pos (suc a % suc b))) (sym (minus-times (suc a / suc b) (suc b)));
+  small = omega (arith, abs-minus (suc a % suc b), mod-below (suc a) (suc b) (omega arith));
+  above = λ p. absurd (p .le);
+  below = λ _. minus-below (suc a % suc b);
+}
 divides (negsuc a) (negsuc b) h = record {
-    whole = parts a (suc a / suc b) (suc b) (div-add-mod' (suc a) (suc b));
-    small = omega (arith, abs-minus (suc a % suc b), mod-below (suc a) (suc b) (omega arith));
-    above = λ p. absurd (p .le);
-    below = λ _. minus-below (suc a % suc b) }
+  whole = parts a (suc a / suc b) (suc b) (div-add-mod' (suc a) (suc b));
+  small = omega (arith, abs-minus (suc a % suc b), mod-below (suc a) (suc b) (omega arith));
+  above = λ p. absurd (p .le);
+  below = λ _. minus-below (suc a % suc b);
+}
 
 quotient-fits : (a b : ℤ) → SFits w32 a → (Overflows a b → ⊥) → SFits w32 (quotZ a b)
 quotient-fits (pos a) (pos b) f h = record { sfits = omega (arith, f .sfits, div-le-self a b) }
@@ -82,9 +86,10 @@ module _ (a b : ℤ) (f : SFits w32 a) (g : SFits w32 b) (h : ofZ w32 b ≡ 0 �
 
   pub quotient-law : (q : ℤ) → q ≡ wrapped w32 (quotZ a b) → QuotientLaw a b (Ok q)
   quotient-law q e = (
-      nonzero,
-      λ n. (remZ a b, let same = e ∙ wrapped-fits w32 (quotZ a b) (quotient-fits a b f n) in rw same (divides a b nonzero)),
-      λ o. e ∙ over a b o)
+    nonzero,
+    λ n. (remZ a b, let same = e ∙ wrapped-fits w32 (quotZ a b) (quotient-fits a b f n) in rw same (divides a b nonzero)),
+    λ o. e ∙ over a b o,
+  )
 
   pub remainder-law : (r : ℤ) → r ≡ remZ a b → RemainderLaw a b (Ok r)
   remainder-law r e = (nonzero, (quotZ a b, rw e (divides a b nonzero)))

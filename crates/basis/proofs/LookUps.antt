@@ -21,7 +21,7 @@ module _ (word : List ℕ) where
   here (x ∷ bs) cs b e = by (sameBytes word (nameOf x)) (here bs cs b) e
     where
       by : (t : Bool) → (Some b ≡ firstNamed word bs → Some b ≡ firstNamed word (bs ++ cs))
-        → Some b ≡ cond t (Some x) (firstNamed word bs) → Some b ≡ cond t (Some x) (firstNamed word (bs ++ cs))
+          → Some b ≡ cond t (Some x) (firstNamed word bs) → Some b ≡ cond t (Some x) (firstNamed word (bs ++ cs))
       by true more e = e
       by false more e = more e
 
@@ -31,7 +31,7 @@ module _ (word : List ℕ) where
   later (x ∷ bs) cs e = by (sameBytes word (nameOf x)) (later bs cs) e
     where
       by : (t : Bool) → (None ≡ firstNamed word bs → firstNamed word cs ≡ firstNamed word (bs ++ cs))
-        → None ≡ cond t (Some x) (firstNamed word bs) → firstNamed word cs ≡ cond t (Some x) (firstNamed word (bs ++ cs))
+          → None ≡ cond t (Some x) (firstNamed word bs) → firstNamed word cs ≡ cond t (Some x) (firstNamed word (bs ++ cs))
       by true more e = let z : _≡_ {A = ℕ} 0 1 = cc in absurd (omega arith)
       by false more e = more e
 
@@ -41,7 +41,7 @@ module _ (word : List ℕ) where
   sound (x ∷ bs) b e = by (sameBytes word (nameOf x)) refl (sound bs b) e
     where
       by : (t : Bool) → sameBytes word (nameOf x) ≡ t → (Some b ≡ firstNamed word bs → nameOf b ≡ word)
-        → Some b ≡ cond t (Some x) (firstNamed word bs) → nameOf b ≡ word
+          → Some b ≡ cond t (Some x) (firstNamed word bs) → nameOf b ≡ word
       by true p more e = let same : b ≡ x = cc in ap nameOf same ∙ sym (sameBytes-decides word (nameOf x) .0 p)
       by false p more e = more e
 

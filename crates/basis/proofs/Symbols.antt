@@ -31,8 +31,12 @@ pub record Unescaping (body : List ℕ) (size : ℕ) (before : List ℕ) (e : Bo
 module _ (body : List ℕ) (size : ℕ) (before : List ℕ) (e : Bool) (i at : ℕ) (out : List ℕ) (u : Unescaping body size before e i at out) (lt : i < length body) (t : Bool) (g : t ≡ goes e (getD body i 0)) where
   pub skipped : t ≡ true → Unescaping body size before t (i + 1) at out
   skipped h = record {
-      text = ap (λ s. take at out ++ s) (sym (gone body i lt e t g h)) ∙ u .text;
-      sized = u .sized; room = u .room; within = u .within; behind = u .behind }
+    text = ap (λ s. take at out ++ s) (sym (gone body i lt e t g h)) ∙ u .text;
+    sized = u .sized;
+    room = u .room;
+    within = u .within;
+    behind = u .behind;
+  }
 
   -- a byte that stays has its place
   pub place : t ≡ false → at < size
@@ -50,13 +54,14 @@ module _ (body : List ℕ) (size : ℕ) (before : List ℕ) (e : Bool) (i at : �
       let rest = unescapedAfter t (drop (i + 1) body) in
       record {
         text = ap (λ s. s ++ rest) (take-more-set out at b (omega (arith, u .room)))
-          ∙ append-assoc (take at out) (b ∷ []) rest
-          ∙ ap (λ s. take at out ++ s) (sym (stays body i lt e t g h))
-          ∙ u .text;
+            ∙ append-assoc (take at out) (b ∷ []) rest
+            ∙ ap (λ s. take at out ++ s) (sym (stays body i lt e t g h))
+            ∙ u .text;
         sized = u .sized;
         room = omega (arith, length-set out at b, u .room);
         within = omega arith;
-        behind = drop-set-lt size out at b p ∙ u .behind }
+        behind = drop-set-lt size out at b p ∙ u .behind;
+      }
 
 pub end : (body : List ℕ) (size : ℕ) (before : List ℕ) (e : Bool) (i at : ℕ) (out : List ℕ) → Unescaping body size before e i at out → length body ≤ i → out ≡ unescaped body ++ drop size before
 end body size before e i at out u h =
@@ -71,7 +76,7 @@ unescapes [] = refl
 unescapes (b ∷ s) = by (eqb b 39) (eqb b 92) refl refl (unescapes s)
   where
     by : (q k : Bool) → eqb b 39 ≡ q → eqb b 92 ≡ k → unescaped (escaped s) ≡ s
-      → unescaped (cond (q || k) (92 ∷ b ∷ escaped s) (b ∷ escaped s)) ≡ b ∷ s
+        → unescaped (cond (q || k) (92 ∷ b ∷ escaped s) (b ∷ escaped s)) ≡ b ∷ s
     by true k p f e = ap (λ t. b ∷ t) e
     by false true p f e = ap (λ t. b ∷ t) e
     by false false p f e = rw (f, unescapedAfter) (ap (λ t. b ∷ t) e)

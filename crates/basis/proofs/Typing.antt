@@ -78,10 +78,12 @@ module _ {X : Type 0} (use′ : Plain → (X → Applied) → Applied) (u : Basi
   meets-two f g (v ∷ []) = (λ e. let z : _≡_ {A = ℕ} 0 1 = cc in absurd (omega arith), λ _. refl)
   meets-two f g (v ∷ w ∷ []) = ⊎-elim
       (λ k. ⊎-elim
-        (λ l. (λ _. subst (Gives t) (sym (k .2 (λ a. use′ w (λ b. f a b)) ∙ l .2 (λ b. f (k .0) b))) (g (k .0) (l .0)),
-          λ h. absurd (h (ap (λ p. p ∷ typeOf w ∷ []) (k .1) ∙ ap (λ p. u ∷ p ∷ []) (l .1)))))
-        (λ l. (λ e. let same : typeOf w ≡ u = cc in absurd (l .0 same), λ _. k .2 (λ a. use′ w (λ b. f a b)) ∙ l .1 (λ b. f (k .0) b)))
-        (takes w))
+      (λ l. (
+        λ _. subst (Gives t) (sym (k .2 (λ a. use′ w (λ b. f a b)) ∙ l .2 (λ b. f (k .0) b))) (g (k .0) (l .0)),
+        λ h. absurd (h (ap (λ p. p ∷ typeOf w ∷ []) (k .1) ∙ ap (λ p. u ∷ p ∷ []) (l .1))),
+      ))
+      (λ l. (λ e. let same : typeOf w ≡ u = cc in absurd (l .0 same), λ _. k .2 (λ a. use′ w (λ b. f a b)) ∙ l .1 (λ b. f (k .0) b)))
+      (takes w))
       (λ k. (λ e. let same : typeOf v ≡ u = cc in absurd (k .0 same), λ _. k .1 (λ a. use′ w (λ b. f a b))))
       (takes v)
   meets-two f g (v ∷ w ∷ x ∷ s) = (λ e. let z : _≡_ {A = ℕ} 0 1 = cc in absurd (omega arith), λ _. refl)

@@ -41,14 +41,22 @@ pub fn divide(a: i32, b: i32) -> Result<i32, ArithmeticFault>
     ensures value { λ r. ⌜ r ≡ quotient a b ⌝ }
     ensures law { λ r. ⌜ QuotientLaw a b r ⌝ }
 {
-    if b == 0 { Err(ArithmeticFault::ZeroDivisor) } else { Ok(a.wrapping_div(b)) }
+    if b == 0 {
+        Err(ArithmeticFault::ZeroDivisor)
+    } else {
+        Ok(a.wrapping_div(b))
+    }
 }
 
 pub fn remainder(a: i32, b: i32) -> Result<i32, ArithmeticFault>
     ensures value { λ r. ⌜ r ≡ remainderOf a b ⌝ }
     ensures law { λ r. ⌜ RemainderLaw a b r ⌝ }
 {
-    if b == 0 { Err(ArithmeticFault::ZeroDivisor) } else { Ok(a.wrapping_rem(b)) }
+    if b == 0 {
+        Err(ArithmeticFault::ZeroDivisor)
+    } else {
+        Ok(a.wrapping_rem(b))
+    }
 }
 
 pub fn unsigned_divide(a: i32, b: i32) -> Result<i32, ArithmeticFault>
@@ -56,7 +64,11 @@ pub fn unsigned_divide(a: i32, b: i32) -> Result<i32, ArithmeticFault>
     ensures law { λ r. ⌜ UnsignedQuotientLaw a b r ⌝ }
 {
     let (a, b) = (a.cast_unsigned(), b.cast_unsigned());
-    if b == 0 { Err(ArithmeticFault::ZeroDivisor) } else { Ok((a / b).cast_signed()) }
+    if b == 0 {
+        Err(ArithmeticFault::ZeroDivisor)
+    } else {
+        Ok((a / b).cast_signed())
+    }
 }
 
 pub fn unsigned_remainder(a: i32, b: i32) -> Result<i32, ArithmeticFault>
@@ -64,7 +76,11 @@ pub fn unsigned_remainder(a: i32, b: i32) -> Result<i32, ArithmeticFault>
     ensures law { λ r. ⌜ UnsignedRemainderLaw a b r ⌝ }
 {
     let (a, b) = (a.cast_unsigned(), b.cast_unsigned());
-    if b == 0 { Err(ArithmeticFault::ZeroDivisor) } else { Ok((a % b).cast_signed()) }
+    if b == 0 {
+        Err(ArithmeticFault::ZeroDivisor)
+    } else {
+        Ok((a % b).cast_signed())
+    }
 }
 
 pub fn bit_and(a: i32, b: i32) -> i32
@@ -97,7 +113,11 @@ pub fn shift_left(a: i32, amount: i32) -> Result<i32, ArithmeticFault>
     ensures law { λ r. ⌜ LeftShiftLaw a amount r ⌝ }
 {
     let places = amount.cast_unsigned();
-    if places < PLACES { Ok(a << places) } else { Err(ArithmeticFault::BadShift) }
+    if places < PLACES {
+        Ok(a << places)
+    } else {
+        Err(ArithmeticFault::BadShift)
+    }
 }
 
 pub fn shift_right(a: i32, amount: i32) -> Result<i32, ArithmeticFault>
@@ -105,5 +125,9 @@ pub fn shift_right(a: i32, amount: i32) -> Result<i32, ArithmeticFault>
     ensures law { λ r. ⌜ RightShiftLaw a amount r ⌝ }
 {
     let places = amount.cast_unsigned();
-    if places < PLACES { Ok(a >> places) } else { Err(ArithmeticFault::BadShift) }
+    if places < PLACES {
+        Ok(a >> places)
+    } else {
+        Err(ArithmeticFault::BadShift)
+    }
 }

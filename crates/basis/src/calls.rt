@@ -10,20 +10,20 @@ use super::ArithmeticFault;
 use super::Basis;
 use super::Plain;
 use super::Print;
-use super::add;
-use super::bit_and;
-use super::bit_or;
-use super::bit_xor;
-use super::complement;
-use super::divide;
-use super::multiply;
-use super::negate;
-use super::remainder;
-use super::shift_left;
-use super::shift_right;
-use super::subtract;
-use super::unsigned_divide;
-use super::unsigned_remainder;
+use super::arithmetic::add;
+use super::arithmetic::bit_and;
+use super::arithmetic::bit_or;
+use super::arithmetic::bit_xor;
+use super::arithmetic::complement;
+use super::arithmetic::divide;
+use super::arithmetic::multiply;
+use super::arithmetic::negate;
+use super::arithmetic::remainder;
+use super::arithmetic::shift_left;
+use super::arithmetic::shift_right;
+use super::arithmetic::subtract;
+use super::arithmetic::unsigned_divide;
+use super::arithmetic::unsigned_remainder;
 
 fn answer(result: Result<i32, ArithmeticFault>) -> Applied
     ensures { λ r. ⌜ r ≡ answerOf result ⌝ }

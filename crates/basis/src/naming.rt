@@ -68,7 +68,11 @@ pub fn name_in(names: &[u8], basis: Basis) -> &[u8]
     let span = span_of(basis);
     let from = span.from;
     let to = span.to;
-    if to <= names.len() { &names[from..to] } else { &[] }
+    if to <= names.len() {
+        &names[from..to]
+    } else {
+        &[]
+    }
 }
 
 // The function's name, a part of the list of all names.

@@ -5,10 +5,10 @@ ghost use Rattle.basis.specs.CallLaws.{typeOf, Gives, Suits};
 ghost use Rattle.basis.specs.Calls.{applied};
 ghost use Rattle.basis.specs.Types.{parametersOf, resultOf, listed};
 ghost use Rattle.basis.specs.declared.applied.Applied.the-variants.{Mismatch};
-use super::Plain;
 use super::Basis;
 use super::BasisType;
 use super::Parameters;
+use super::Plain;
 
 // The types of the function's parameters.
 pub fn parameters_of(basis: Basis) -> Parameters
@@ -33,22 +33,19 @@ pub fn parameters_of(basis: Basis) -> Parameters
         | Basis::BitXor
         | Basis::ShiftLeft
         | Basis::ShiftRight => Parameters::Two(BasisType::Int, BasisType::Int),
-        Basis::EqualBool
-        | Basis::And
-        | Basis::Or
-        | Basis::Xor => Parameters::Two(BasisType::Bool, BasisType::Bool),
+        Basis::EqualBool | Basis::And | Basis::Or | Basis::Xor => Parameters::Two(
+            BasisType::Bool,
+            BasisType::Bool,
+        ),
         Basis::EqualSym => Parameters::Two(BasisType::Sym, BasisType::Sym),
         Basis::EqualUnit => Parameters::Two(BasisType::Unit, BasisType::Unit),
-        Basis::Negate
-        | Basis::Complement
-        | Basis::PrintInt
-        | Basis::PrintAscii => Parameters::One(BasisType::Int),
-        Basis::Not
-        | Basis::PrintBool => Parameters::One(BasisType::Bool),
+        Basis::Negate | Basis::Complement | Basis::PrintInt | Basis::PrintAscii => Parameters::One(
+            BasisType::Int,
+        ),
+        Basis::Not | Basis::PrintBool => Parameters::One(BasisType::Bool),
         Basis::PrintSym => Parameters::One(BasisType::Sym),
         Basis::PrintUnit => Parameters::One(BasisType::Unit),
-        Basis::PrintNewline
-        | Basis::Input => Parameters::Zero,
+        Basis::PrintNewline | Basis::Input => Parameters::Zero,
     }
 }
 

@@ -10,4 +10,5 @@ returns-else-b-eq0 c =
     let near = wrapped-near (quotZ (c .args .a) (c .args .b)) (quotient-near (c .args .a) (c .args .b) (c .fits .a)) in
     record {
       value = search (needs, toZ-ofZ, near);
-      law = quotient-law (c .args .a) (c .args .b) (c .fits .a) (c .fits .b) (c .if-b-eq0 .left) _ (search (needs, toZ-ofZ, near)) }
+      law = quotient-law (c .args .a) (c .args .b) (c .fits .a) (c .fits .b) (c .if-b-eq0 .left) _ (search (needs, toZ-ofZ, near));
+    }

@@ -13,4 +13,5 @@ returns-then-places-lt-PLACES c =
     let e = shifted-left (c .args .a) (ofZ w32 (c .args .amount)) (c .fits .a) h in
     record {
       value = search (needs, toZ-ofZ, e);
-      law = left-shift-law (c .args .a) (c .args .amount) _ (c .fits .amount) h (search (needs, toZ-ofZ, e)) }
+      law = left-shift-law (c .args .a) (c .args .amount) _ (c .fits .amount) h (search (needs, toZ-ofZ, e));
+    }

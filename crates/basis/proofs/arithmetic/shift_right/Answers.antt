@@ -11,4 +11,5 @@ returns-then-places-lt-PLACES c =
     let h : ofZ w32 (c .args .amount) < 32 = search (needs, toZ-ofZ) in
     record {
       value = search (needs, toZ-ofZ);
-      law = right-shift-law (c .args .a) (c .args .amount) _ (c .fits .amount) h (search (needs, toZ-ofZ)) }
+      law = right-shift-law (c .args .a) (c .args .amount) _ (c .fits .amount) h (search (needs, toZ-ofZ));
+    }

@@ -11,4 +11,5 @@ returns-else-b-eq0 c =
     let h : ofZ w32 (c .args .b) ≡ 0 → ⊥ = search (needs, toZ-ofZ) in
     record {
       value = search (needs, toZ-ofZ);
-      law = unsigned-remainder-law (c .args .a) (c .args .b) (c .fits .a) (c .fits .b) h (toZ w32 (ofZ w32 (c .cast-signed .result))) (search (needs, toZ-ofZ)) }
+      law = unsigned-remainder-law (c .args .a) (c .args .b) (c .fits .a) (c .fits .b) h (toZ w32 (ofZ w32 (c .cast-signed .result))) (search (needs, toZ-ofZ));
+    }

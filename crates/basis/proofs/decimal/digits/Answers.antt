@@ -20,4 +20,5 @@ returns c =
     record {
       text = last _ _ _ _ (c .loop-rest .inv) (c .loop-rest-test .left);
       low = omega arith;
-      high = omega (arith, c .loop-rest .inv .within) }
+      high = omega (arith, c .loop-rest .inv .within);
+    }

@@ -11,4 +11,5 @@ returns-then-n-lt0 c =
     let d = c .digits-at .ensures in
     record {
       text = minus (c .args .n) (c .digits-at .result) (c .digits-at .last .room) negative (d .low) (d .high) (c .digits-at .array-long) (search (needs, toZ-ofZ));
-      within = omega (arith, d .high) }
+      within = omega (arith, d .high);
+    }

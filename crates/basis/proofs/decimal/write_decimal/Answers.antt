@@ -14,8 +14,9 @@ returns c =
     let from = c .spell-from .result in
     let text = simp toZ-ofZ at (c .spell-from .ensures .text) in
     let e : take (11 - from) (drop from room) ≡ decimalOf (c .args .n) =
-        ap (λ n. take (n - from) (drop from room)) (sym (c .spell-from .array-long)) ∙ take-rest room from ∙ text in
+    ap (λ n. take (n - from) (drop from room)) (sym (c .spell-from .array-long)) ∙ take-rest room from ∙ text in
     record {
       count = c .put .ensures .count ∙ ap (λ s. fitting s (c .args .out .now)) e;
       after = c .put .ensures .after ∙ ap (λ s. over s (c .args .out .now)) e;
-      law = spells (c .args .n) f }
+      law = spells (c .args .n) f;
+    }

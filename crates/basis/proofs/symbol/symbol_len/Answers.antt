@@ -14,8 +14,9 @@ loop-b-again c =
     let lt = c .loop-b-test .taken in
     let g = c .goes-escaped .ensures in
     elim (c .if-not-escaped .came) [
-      then-not-escaped w ↦ (let e = ap length (stays body i lt (c .loop-b .escaped) _ g (w .if-not-escaped .taken)) in (omega (arith, w .count-is), omega (arith, w .count-is)))
-    | else-not-escaped w ↦ (let e = ap length (gone body i lt (c .loop-b .escaped) _ g (w .if-not-escaped .left)) in (omega (arith, w .count-is), omega (arith, w .count-is))) ]
+      | then-not-escaped w ↦ (let e = ap length (stays body i lt (c .loop-b .escaped) _ g (w .if-not-escaped .taken)) in (omega (arith, w .count-is), omega (arith, w .count-is)))
+      | else-not-escaped w ↦ (let e = ap length (gone body i lt (c .loop-b .escaped) _ g (w .if-not-escaped .left)) in (omega (arith, w .count-is), omega (arith, w .count-is)))
+    ]
 
 pub returns : need.returns
 returns c =

@@ -19,7 +19,8 @@ returns-then-size-out c =
     record {
       count = sym (cond-false (leb (length text) (length out)) (Some (length text)) None e);
       after = sym (cond-false (leb (length text) (length out)) (text ++ drop (length text) out) out e);
-      law = unescapes }
+      law = unescapes;
+    }
 
 pub index-out-at : need.index-out-at
 index-out-at c =
@@ -37,10 +38,11 @@ loop-b-again c =
     let lt = c .loop-b-test .taken in
     let g = c .goes-escaped .ensures in
     elim (c .if-not-escaped .came) [
-      then-not-escaped w ↦ subst (λ at. Unescaping body n before t (i + 1) at (c .if-not-escaped .out)) (sym (w .at-is))
-        (subst (λ out. Unescaping body n before t (i + 1) (c .loop-b .at + 1) out) (sym (w .out-is)) (written _ _ _ _ _ _ _ u lt _ g (w .if-not-escaped .taken)))
-    | else-not-escaped w ↦ subst (λ at. Unescaping body n before t (i + 1) at (c .if-not-escaped .out)) (sym (w .at-is))
-        (subst (λ out. Unescaping body n before t (i + 1) (c .loop-b .at) out) (sym (w .out-is)) (skipped _ _ _ _ _ _ _ u lt _ g (w .if-not-escaped .left))) ]
+      | then-not-escaped w ↦ subst (λ at. Unescaping body n before t (i + 1) at (c .if-not-escaped .out)) (sym (w .at-is))
+          (subst (λ out. Unescaping body n before t (i + 1) (c .loop-b .at + 1) out) (sym (w .out-is)) (written _ _ _ _ _ _ _ u lt _ g (w .if-not-escaped .taken)))
+      | else-not-escaped w ↦ subst (λ at. Unescaping body n before t (i + 1) at (c .if-not-escaped .out)) (sym (w .at-is))
+          (subst (λ out. Unescaping body n before t (i + 1) (c .loop-b .at) out) (sym (w .out-is)) (skipped _ _ _ _ _ _ _ u lt _ g (w .if-not-escaped .left)))
+    ]
 
 pub returns : need.returns
 returns c =
@@ -51,4 +53,5 @@ returns c =
     record {
       count = ap Some size ∙ sym (cond-true (leb (length text) (length out)) (Some (length text)) None e);
       after = end _ _ _ _ _ _ _ (c .loop-b .inv) (c .loop-b-test .left) ∙ ap (λ n. text ++ drop n out) size ∙ sym (cond-true (leb (length text) (length out)) (text ++ drop (length text) out) out e);
-      law = unescapes }
+      law = unescapes;
+    }
