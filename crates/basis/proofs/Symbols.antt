@@ -2,6 +2,7 @@
 use mathlib.Core.Path.{_≡_, refl, sym, ap, _∙_}
 use mathlib.Core.Bool.{Bool, true, false, cond, _||_}
 use mathlib.Core.List.{List, [], _∷_, _++_}
+use mathlib.Core.Logic.{⊎-elim}
 use Prim.Native.Nat.{ℕ, _+_, _-_, _≤_, _<_}
 use native.Mathlib.Numerals.{add-one}
 use native.Mathlib.Omega.{arith}
@@ -9,8 +10,9 @@ use lib.Dec.{eqb}
 use lib.ListN.{length, getD, take, drop, set}
 use lib.Seq.{drop-cons}
 use Rattle.std.proofs.shelf.Lists.{append-assoc, append-nil, length-append, length-take-le, length-set, take-more-set, take-append-drop, drop-set-lt, drop-all}
+use Rattle.std.proofs.shelf.Tests.{eq-eqb, ne-eqb, or-left, or-right}
 use Rattle.basis.specs.Printing.{goes, unescapedAfter, unescaped}
-use Rattle.basis.specs.PrintingLaws.{escaped, Unescapes}
+use Rattle.basis.specs.PrintingLaws.{Literal, none, plain, escape, escaped, Unescapes}
 
 -- one byte of the body, that goes or stays
 module _ (body : List ℕ) (i : ℕ) (lt : i < length body) (e t : Bool) (g : t ≡ goes e (getD body i 0)) where
@@ -70,13 +72,15 @@ end body size before e i at out u h =
     let n : at ≡ size = omega (arith, ap length t, length-take-le at out (omega (arith, u .within, u .room)), u .sized) in
     sym (take-append-drop at out) ∙ ap (λ s. s ++ drop at out) t ∙ ap (λ k. unescaped body ++ drop k out) n ∙ ap (λ s. unescaped body ++ s) (u .behind)
 
--- a text whose quotes and backslashes are escaped is that of the symbol
-pub unescapes : Unescapes
-unescapes [] = refl
-unescapes (b ∷ s) = by (eqb b 39) (eqb b 92) refl refl (unescapes s)
-  where
-    by : (q k : Bool) → eqb b 39 ≡ q → eqb b 92 ≡ k → unescaped (escaped s) ≡ s
-        → unescaped (cond (q || k) (92 ∷ b ∷ escaped s) (b ∷ escaped s)) ≡ b ∷ s
-    by true k p f e = ap (λ t. b ∷ t) e
-    by false true p f e = ap (λ t. b ∷ t) e
-    by false false p f e = rw (f, unescapedAfter) (ap (λ t. b ∷ t) e)
+-- the law of literals
+plain-byte : (b : ℕ) (s t : List ℕ) → eqb b 39 ≡ false → eqb b 92 ≡ false → Unescapes s t → Unescapes (b ∷ s) (b ∷ t)
+plain-byte b s t q k u = record { there = rw (k, unescapedAfter) (ap (λ r. b ∷ r) (u .there)); back = rw (q, k, escaped) (ap (λ r. b ∷ r) (u .back)) }
+
+escaped-byte : (c : ℕ) (s t : List ℕ) → (eqb c 39 || eqb c 92) ≡ true → Unescapes s t → Unescapes (92 ∷ c ∷ s) (c ∷ t)
+escaped-byte c s t e u = record { there = ap (λ r. c ∷ r) (u .there); back = rw (e, escaped) (ap (λ r. 92 ∷ c ∷ r) (u .back)) }
+
+pub unescapes : (body text : List ℕ) → Literal body text → Unescapes body text
+unescapes _ _ none = record { there = refl; back = refl }
+unescapes _ _ (plain {b} {s} {t} q k l) = plain-byte b s t (ne-eqb b 39 q) (ne-eqb b 92 k) (unescapes s t l)
+unescapes _ _ (escape {c} {s} {t} e l) =
+    escaped-byte c s t (⊎-elim (λ p. or-left (eqb c 39) (eqb c 92) (eq-eqb c 39 p)) (λ p. or-right (eqb c 39) (eqb c 92) (eq-eqb c 92 p)) e) (unescapes s t l)

@@ -2,6 +2,7 @@
 use mathlib.Core.Path.{_≡_}
 use mathlib.Core.Bool.{true, cond, _||_}
 use mathlib.Core.List.{List, [], _∷_}
+use mathlib.Core.Logic.{_⊎_}
 use Prim.Native.Nat.{ℕ, suc, _+_, _-_, _*_, _<_}
 use lib.Dec.{eqb}
 use lib.IntN.{ℤ, pos, negsuc}
@@ -26,11 +27,18 @@ abbrev pub Spells : ℤ → List ℕ → Type 0
 Spells (pos n) s = Digits n s
 Spells (negsuc n) s = (ds : List ℕ) × (s ≡ 45 ∷ ds) × Digits (suc n) ds
 
--- a backslash before each quote and each backslash of a text: what a literal has between its quotes
+-- How a literal spells a text, between its quotes: a quote and a backslash behind a backslash, every other byte by itself.
+pub data Literal : List ℕ → List ℕ → Type 0 where
+  none : Literal [] []
+  plain : {b : ℕ} {s t : List ℕ} → (b ≡ 39 → ⊥) → (b ≡ 92 → ⊥) → Literal s t → Literal (b ∷ s) (b ∷ t)
+  escape : {c : ℕ} {s t : List ℕ} → (c ≡ 39) ⊎ (c ≡ 92) → Literal s t → Literal (92 ∷ c ∷ s) (c ∷ t)
+
+-- a text with a backslash before each quote and each backslash
 abbrev pub escaped : List ℕ → List ℕ
 escaped [] = []
 escaped (b ∷ s) = cond (eqb b 39 || eqb b 92) (92 ∷ b ∷ escaped s) (b ∷ escaped s)
 
--- every text is that of some symbol
-abbrev pub Unescapes : Type 0
-Unescapes = (text : List ℕ) → unescaped (escaped text) ≡ text
+-- A literal spells one text, its bytes unescaped, and a text is spelt in one way, so that symbols differ exactly as their texts do.
+pub record Unescapes (body text : List ℕ) : Type 0 where
+  pub there : unescaped body ≡ text
+  pub back : escaped text ≡ body

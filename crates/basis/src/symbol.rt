@@ -1,9 +1,11 @@
 // The text of a symbol: the bytes between the quotes of its literal, with the escapes undone.
 ghost use mathlib.Core.Path.{_≡_};
+ghost use mathlib.Core.List.{List};
+ghost use Prim.Native.Nat.{ℕ};
 ghost use lib.ListN.{length};
 ghost use Rattle.basis.specs.Printing.{unescaped, fitting, over};
 ghost use Rattle.basis.specs.Printing.{goes as goesBy};
-ghost use Rattle.basis.specs.PrintingLaws.{Unescapes};
+ghost use Rattle.basis.specs.PrintingLaws.{Literal, Unescapes};
 
 // Whether a byte goes, from whether the byte before it went.
 fn goes(escaped: bool, b: u8) -> bool
@@ -31,7 +33,7 @@ pub fn symbol_len(body: &[u8]) -> usize
 pub fn write_symbol(body: &[u8], out: &mut [u8]) -> Option<usize>
     ensures count { λ r. ⌜ r ≡ fitting (unescaped (now (body .entry))) (now (out .entry)) ⌝ }
     ensures after { λ _. ⌜ now (out .exit) ≡ over (unescaped (now (body .entry))) (now (out .entry)) ⌝ }
-    ensures law { λ _. ⌜ Unescapes ⌝ }
+    ensures law { λ _. ⌜ ((text : List ℕ) → Literal (now (body .entry)) text → Unescapes (now (body .entry)) text) ⌝ }
 {
     let size = symbol_len(body);
     if size > out.len() {

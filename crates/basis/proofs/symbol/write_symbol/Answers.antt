@@ -19,7 +19,7 @@ returns-then-size-out c =
     record {
       count = sym (cond-false (leb (length text) (length out)) (Some (length text)) None e);
       after = sym (cond-false (leb (length text) (length out)) (text ++ drop (length text) out) out e);
-      law = unescapes;
+      law = unescapes (c .args .body .now);
     }
 
 pub index-out-at : need.index-out-at
@@ -53,5 +53,5 @@ returns c =
     record {
       count = ap Some size ∙ sym (cond-true (leb (length text) (length out)) (Some (length text)) None e);
       after = end _ _ _ _ _ _ _ (c .loop-b .inv) (c .loop-b-test .left) ∙ ap (λ n. text ++ drop n out) size ∙ sym (cond-true (leb (length text) (length out)) (text ++ drop (length text) out) out e);
-      law = unescapes;
+      law = unescapes (c .args .body .now);
     }
