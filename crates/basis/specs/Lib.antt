@@ -1,0 +1,10 @@
+pub mod Numbers
+pub mod Names
+pub mod Types
+pub mod Faults
+pub mod Arithmetic
+pub mod ArithmeticLaws
+pub mod Calls
+pub mod CallLaws
+pub mod Printing
+pub mod PrintingLaws
