@@ -1,0 +1,3 @@
+// Data in a store: what a value stands for, and the walks over it. No walk recurses or takes memory: its work list is
+// threaded through the spare numbers of the cells that it walks.
+pub mod laws;
