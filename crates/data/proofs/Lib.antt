@@ -1,3 +1,5 @@
 pub mod Stores
 pub mod Outs
 pub mod Keeping
+pub mod Spares
+pub mod Walking

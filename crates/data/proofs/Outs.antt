@@ -128,6 +128,29 @@ joined out-none b = b
 joined (out-plain p o) b = out-plain p (joined o b)
 joined (out-cell r e k o) b = out-cell r e k (joined o b)
 
+-- how many trees a row has
+abbrev pub tally : Trees → ℕ
+tally none = 0
+tally (more t ts) = 1 + tally ts
+
+pub out-tally : {cs after : Cells} {vs : List Value} {ts : Trees} → Out cs vs ts after → tally ts ≡ length vs
+out-tally out-none = refl
+out-tally (out-plain p o) = omega (arith, out-tally o)
+out-tally (out-cell r e k o) = omega (arith, out-tally o)
+
+-- a row in two given parts
+pub record Two (cs : Cells) (xs : List Value) (ts : Trees) (ys : List Value) (us : Trees) (after : Cells) : Type 0 where
+  pub mid : Cells
+  pub first : Out cs xs ts mid
+  pub second : Out mid ys us after
+
+pub parts-at : (xs ys : List Value) (ts us : Trees) {cs after : Cells} → tally ts ≡ length xs → Out cs (xs ++ ys) (join ts us) after → Two cs xs ts ys us after
+parts-at [] ys none us {cs} e o = record { mid = cs; first = out-none; second = o }
+parts-at [] ys (more t ts) us e o = absurd (omega arith)
+parts-at (x ∷ xs) ys none us e o = absurd (omega arith)
+parts-at (x ∷ xs) ys (more t ts) us e (out-plain p o) = let u = parts-at xs ys ts us (omega arith) o in record { mid = u .mid; first = out-plain p (u .first); second = u .second }
+parts-at (x ∷ xs) ys (more t ts) us e (out-cell r h k o) = let u = parts-at xs ys ts us (omega arith) o in record { mid = u .mid; first = out-cell r h k (u .first); second = u .second }
+
 -- nothing taken out
 pub out-nothing : {cs after : Cells} {ts : Trees} → Out cs [] ts after → (cs ≡ after) × (ts ≡ none)
 out-nothing out-none = (refl, refl)
