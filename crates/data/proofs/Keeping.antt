@@ -15,6 +15,7 @@ use Rattle.cells.proofs.Calls.{at-other, at-cleared}
 use Rattle.data.specs.Trees.{Tree, Trees, built, none, more}
 use Rattle.data.specs.Standing.{Fills, FillsAll, fills-plain, fills-cell, fills-none, fills-more, Among, among-first, among-later, Distinct, distinct-none, distinct-more, less, Keeps}
 use Rattle.data.specs.Taking.{Out, out-none, out-plain, out-cell, SameAsKeeping, KeepsWhatStands}
+use Rattle.data.specs.Copying.{Within}
 use Rattle.data.proofs.Stores.{some-none, cleared-or-same, same-cells}
 use Rattle.data.proofs.Outs.{stays-free, was, out-long}
 
@@ -79,10 +80,6 @@ less-gone (n ∷ ns) m i a =
 pub less-other : (ns : List ℕ) (m : Cells) (i : ℕ) → (Among i ns → ⊥) → at (less ns m) i ≡ at m i
 less-other [] m i d = refl
 less-other (n ∷ ns) m i d = at-other (less ns m) n i None (λ s. d (among-first s)) ∙ less-other ns m i (λ a. d (among-later a))
-
--- what is live in the first is the same in the second
-abbrev pub Within : Cells → Cells → Type 0
-Within a b = (i : ℕ) (r : CellRecord) → at a i ≡ Some r → at b i ≡ Some r
 
 pub cleared-within : (cs : Cells) (n : ℕ) → Within (set cs n None) cs
 cleared-within cs n i r e = ⊎-elim (λ z. absurd (some-none e z)) (λ s. sym s ∙ e) (cleared-or-same cs i n)

@@ -3,3 +3,4 @@ pub mod Outs
 pub mod Keeping
 pub mod Spares
 pub mod Walking
+pub mod Copying

@@ -22,3 +22,7 @@ AlikeCells (Some r) (Some q) = Alike r q
 -- every cell is as it was, but for its spare number
 pub record Respared (old new : Cells) : Type 0 where
   pub each : (i : ℕ) → AlikeCells (at old i) (at new i)
+
+-- every record that was live is as it was, but for its spare number
+pub record Kept (old new : Cells) : Type 0 where
+  pub each : (i : ℕ) (r : CellRecord) → at old i ≡ Some r → (q : CellRecord) × (at new i ≡ Some q) × Alike r q

@@ -5,3 +5,4 @@ pub mod Alike
 pub mod Refusals
 pub mod Walks
 pub mod WorkLists
+pub mod Copying
