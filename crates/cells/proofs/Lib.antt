@@ -2,3 +2,4 @@ pub mod CellLaws
 pub mod RecordLaws
 pub mod Calls
 pub mod Pairs
+pub mod LentLaws

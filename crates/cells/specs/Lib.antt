@@ -4,3 +4,4 @@ pub mod Records
 pub mod Refusals
 pub mod Meaning
 pub mod Laws
+pub mod Lent

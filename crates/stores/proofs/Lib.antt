@@ -1,5 +1,0 @@
-pub mod LentLaws
-pub mod ChainLaws
-pub mod ChainSteps
-pub mod MarkLaws
-pub mod ShelfLaws

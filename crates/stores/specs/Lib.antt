@@ -1,4 +1,0 @@
-pub mod Lent
-pub mod Chains
-pub mod Marks
-pub mod Shelves
