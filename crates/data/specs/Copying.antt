@@ -90,7 +90,7 @@ pub record Turns (entry : Cells) (n : ℕ) (r : Result ℕ WalkRefusal) (exit : 
 pub record CopiesCells (entry : Cells) (v : Value) (r : Result Value WalkRefusal) (exit : Cells) : Type 0 where
   pub long : length exit ≡ length entry
   pub stuck : OnlyStuck r
-  pub copies : (ts : Trees) → Reads entry (v ∷ []) ts → liveCount entry + sizes ts ≤ length entry → Okay r (λ w. Out exit (w ∷ []) ts entry)
+  pub copies : (ts : Trees) → Reads entry (v ∷ []) ts → sizes ts ≤ liveCount entry → liveCount entry + sizes ts ≤ length entry → Okay r (λ w. Out exit (w ∷ []) ts entry)
 
 -- whether enough cells are free; only spare numbers change
 pub record Rooms (entry : Cells) (v : Value) (r : Result Bool WalkRefusal) (exit : Cells) : Type 0 where

@@ -54,11 +54,11 @@ fn copy_fields<S: CellStore>(store: &mut S, cell: u32) -> Result<u32, WalkRefusa
     }
 }
 
-// Copies the tree that the value stands for into free cells.
+// Copies the tree that the value stands for into free cells; it has no more cells than are live.
 fn copy_cells<S: CellStore>(store: &mut S, value: Value) -> Result<Value, WalkRefusal>
     ensures { λ r. ⌜ CopiesCells (S·CellStore .cells (now (store .entry))) value r (S·CellStore .cells (now (store .exit))) ⌝ }
 {
-    let limit = store.capacity() as u32;
+    let limit = store.live_count() as u32;
     let first = copy_field(store, value, END)?;
     let mut head = first.head;
     let mut count: u32 = 0;

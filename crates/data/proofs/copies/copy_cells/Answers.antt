@@ -10,7 +10,7 @@ returns-in-Break-first g c =
     let does = c .in-Break-first .ensures tt .1 in
     record {
       long = ap length (refused-same does); stuck = search needs;
-      copies = λ ts reads enough. absurd (root-refused _ _ (c .args .value) ts does reads enough);
+      copies = λ ts reads most enough. absurd (root-refused _ _ (c .args .value) ts does reads enough);
     }
 
 pub walk-holds : need.walk-holds
@@ -21,9 +21,9 @@ returns-then-count-limit g c =
     let does = c .in-Continue-first .ensures tt in
     record {
       long = c .walk .inv .0 ∙ copied-long does; stuck = refl;
-      copies = λ ts reads enough.
+      copies = λ ts reads most enough.
         let t = c .walk .inv .1 _ _ ts (copied-long does) enough (copying-root _ _ (c .args .value) _ _ ts does reads (g .S·CellStore .small (c .args .store .now))) in
-        absurd (omega (arith, enough, copying-open _ _ _ _ ts _ (c .walk-test .taken) t, c .capacity-limit .ensures, c .if-count-limit .taken));
+        absurd (omega (arith, most, copying-open _ _ _ _ ts _ (c .walk-test .taken) t, c .live-count-limit .ensures, c .if-count-limit .taken));
     }
 
 pub returns-in-Break-head : need.returns-in-Break-head
@@ -32,7 +32,7 @@ returns-in-Break-head g c =
     let turned = c .in-Break-head .ensures tt in
     record {
       long = turned .long ∙ (c .walk .inv .0 ∙ copied-long does); stuck = search needs;
-      copies = λ ts reads enough.
+      copies = λ ts reads most enough.
         let t = c .walk .inv .1 _ _ ts (copied-long does) enough (copying-root _ _ (c .args .value) _ _ ts does reads (g .S·CellStore .small (c .args .store .now))) in
         absurd (copying-turn _ _ _ _ _ ts _ _ (c .walk-test .taken) (c .walk .inv .0 ∙ copied-long does) enough turned t);
     }
@@ -50,7 +50,7 @@ returns g c =
     let does = c .in-Continue-first .ensures tt in
     record {
       long = c .walk .inv .0 ∙ copied-long does; stuck = tt;
-      copies = λ ts reads enough.
+      copies = λ ts reads most enough.
         let t = c .walk .inv .1 _ _ ts (copied-long does) enough (copying-root _ _ (c .args .value) _ _ ts does reads (g .S·CellStore .small (c .args .store .now))) in
         copying-end _ _ _ _ ts _ (c .walk-test .left) t;
     }

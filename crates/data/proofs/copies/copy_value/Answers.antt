@@ -8,6 +8,7 @@ use Rattle.std.specs.Results.{isOk}
 use Rattle.std.proofs.shelf.Tests.{false≢true, leb-true, leb-false}
 use Rattle.cells.specs.Meaning.{liveCount}
 use Rattle.data.specs.Trees.{size, sizes, more, none}
+use Rattle.data.proofs.Outs.{out-count}
 use Rattle.data.proofs.Keeping.{out-from-keeps}
 use Rattle.data.proofs.Copying.{copy-says, out-reads, only-stuck}
 use Rattle.data.proofs.copies.copy_value.Needs as need
@@ -45,5 +46,5 @@ returns g c =
         let test : leb (liveCount entry + size t) (length entry) ≡ c .in-Continue-room .room = let y = z .0 in cc in
         let enough : liveCount entry + size t ≤ length entry = leb-true _ _ (test ∙ c .if-not-room .left) in
         let o = out-from-keeps m₀ mid _ _ (z .1) in
-        copy-says entry mid _ m₀ (c .args .value) t _ (does .copies (more t none) (out-reads o) (omega (arith, enough, sized .long, sized .live))) o (sized .same) enough;
+        copy-says entry mid _ m₀ (c .args .value) t _ (does .copies (more t none) (out-reads o) (omega (arith, out-count o)) (omega (arith, enough, sized .long, sized .live))) o (sized .same) enough;
     }
