@@ -1,6 +1,5 @@
 ghost use Rattle.data.specs.Walks.{Copies};
 ghost use Rattle.data.specs.Copying.{CopiesField, Turns, CopiesCells, Rooms};
-use cells::records::CellRecord;
 use cells::store::CellStore;
 use cells::values::Value;
 use crate::copied::Copied;
@@ -15,13 +14,17 @@ fn copy_field<S: CellStore>(store: &mut S, value: Value, head: u32) -> Result<Co
 {
     match value {
         Value::Cell(number) => match look(store, number) {
-            Ok(contents) => match store.take(contents.with_spare(head)) {
-                Ok(cell) => Ok(Copied {
-                    value: Value::Cell(cell as u32),
-                    head: cell as u32,
-                }),
-                Err(_) => Err(WalkRefusal::Stuck),
-            },
+            Ok(found) => {
+                let mut contents = found;
+                contents.spare = head;
+                match store.take(contents) {
+                    Ok(cell) => Ok(Copied {
+                        value: Value::Cell(cell as u32),
+                        head: cell as u32,
+                    }),
+                    Err(_) => Err(WalkRefusal::Stuck),
+                }
+            }
             Err(_) => Err(WalkRefusal::Stuck),
         },
         _ => Ok(Copied { value, head }),
@@ -32,23 +35,15 @@ fn copy_field<S: CellStore>(store: &mut S, value: Value, head: u32) -> Result<Co
 fn copy_fields<S: CellStore>(store: &mut S, cell: u32) -> Result<u32, WalkRefusal>
     ensures { λ r. ⌜ Turns (S·CellStore .cells (now (store .entry))) cell r (S·CellStore .cells (now (store .exit))) ⌝ }
 {
-    let contents = look(store, cell)?;
-    let old = contents.fields;
-    let mut fields = old;
+    let mut contents = look(store, cell)?;
     let mut top = contents.spare;
     for i in (0..contents.used as usize).rev() {
-        let field = old[i];
+        let field = contents.fields[i];
         let copied = copy_field(store, field, top)?;
-        fields[i] = copied.value;
+        contents.fields[i] = copied.value;
         top = copied.head;
     }
-    let renewed = CellRecord {
-        constructor: contents.constructor,
-        used: contents.used,
-        fields,
-        spare: contents.spare,
-    };
-    match store.write(cell as u16, renewed) {
+    match store.write(cell as u16, contents) {
         Ok(_) => Ok(top),
         Err(_) => Err(WalkRefusal::Stuck),
     }
