@@ -424,12 +424,6 @@ row-set (x ∷ xs) zero (suc u) w a b = refl
 row-set (x ∷ xs) (suc j) zero w a b = absurd (omega arith)
 row-set (x ∷ xs) (suc j) (suc u) w a b = row-set xs j u w (omega arith) (omega arith)
 
--- what stands before a field that is replaced
-pub take-set-past : {X : Type 0} (xs : List X) (j : ℕ) (w : X) → take j (set xs j w) ≡ take j xs
-take-set-past [] j w = refl
-take-set-past (x ∷ xs) zero w = refl
-take-set-past (x ∷ xs) (suc j) w = ap (λ z. x ∷ z) (take-set-past xs j w)
-
 -- the row from i, with one more before it
 pub row-back : {X : Type 0} (xs : List X) (i used : ℕ) (w : X) → 0 < i → i ≤ used → used ≤ length xs → drop (i - 1) (take used (set xs (i - 1) w)) ≡ w ∷ drop i (take used xs)
 row-back xs i used w p l m =

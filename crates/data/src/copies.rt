@@ -1,5 +1,6 @@
 ghost use Rattle.data.specs.Walks.{Copies};
 ghost use Rattle.data.specs.Copying.{CopiesField, Turns, CopiesCells, Rooms};
+use cells::records::CellRecord;
 use cells::store::CellStore;
 use cells::values::Value;
 use crate::copied::Copied;
@@ -14,17 +15,13 @@ fn copy_field<S: CellStore>(store: &mut S, value: Value, head: u32) -> Result<Co
 {
     match value {
         Value::Cell(number) => match look(store, number) {
-            Ok(found) => {
-                let mut contents = found;
-                contents.spare = head;
-                match store.take(contents) {
-                    Ok(cell) => Ok(Copied {
-                        value: Value::Cell(cell as u32),
-                        head: cell as u32,
-                    }),
-                    Err(_) => Err(WalkRefusal::Stuck),
-                }
-            }
+            Ok(contents) => match store.take(contents.with_spare(head)) {
+                Ok(cell) => Ok(Copied {
+                    value: Value::Cell(cell as u32),
+                    head: cell as u32,
+                }),
+                Err(_) => Err(WalkRefusal::Stuck),
+            },
             Err(_) => Err(WalkRefusal::Stuck),
         },
         _ => Ok(Copied { value, head }),
@@ -35,15 +32,23 @@ fn copy_field<S: CellStore>(store: &mut S, value: Value, head: u32) -> Result<Co
 fn copy_fields<S: CellStore>(store: &mut S, cell: u32) -> Result<u32, WalkRefusal>
     ensures { λ r. ⌜ Turns (S·CellStore .cells (now (store .entry))) cell r (S·CellStore .cells (now (store .exit))) ⌝ }
 {
-    let mut contents = look(store, cell)?;
+    let contents = look(store, cell)?;
+    let old = contents.fields;
+    let mut fields = old;
     let mut top = contents.spare;
     for i in (0..contents.used as usize).rev() {
-        let field = contents.fields[i];
+        let field = old[i];
         let copied = copy_field(store, field, top)?;
-        contents.fields[i] = copied.value;
+        fields[i] = copied.value;
         top = copied.head;
     }
-    match store.write(cell as u16, contents) {
+    let renewed = CellRecord {
+        constructor: contents.constructor,
+        used: contents.used,
+        fields,
+        spare: contents.spare,
+    };
+    match store.write(cell as u16, renewed) {
         Ok(_) => Ok(top),
         Err(_) => Err(WalkRefusal::Stuck),
     }

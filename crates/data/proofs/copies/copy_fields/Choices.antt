@@ -16,9 +16,8 @@ Inv-loop-i g l =
     let n = l .cell in
     (length (cells (l .store)) ≡ length (cells (l .entry .store)))
     × (at (cells (l .store)) n ≡ at (cells (l .entry .store)) n)
-    × (length (l .contents .1 .1 .0) ≡ length (l .entry .contents .1 .1 .0))
-    × (drop (l .entry .i) (l .contents .1 .1 .0) ≡ drop (l .entry .i) (l .entry .contents .1 .1 .0))
-    × ((l .contents .0 ≡ l .entry .contents .0) × (l .contents .1 .0 ≡ l .entry .contents .1 .0))
-    × ((old rest : Cells) (ps : List Value) (us kids : Trees) → Within old (cells (l .entry .store)) → Reads old (take (l .entry .i) (l .entry .contents .1 .1 .0)) kids → Pend old (set (cells (l .entry .store)) n None) (l .entry .top) ps us rest
+    × (length (l .fields) ≡ length (l .entry .fields))
+    × (drop (l .entry .i) (l .fields) ≡ drop (l .entry .i) (l .entry .fields))
+    × ((old rest : Cells) (ps : List Value) (us kids : Trees) → Within old (cells (l .entry .store)) → Reads old (take (l .entry .i) (l .old)) kids → Pend old (set (cells (l .entry .store)) n None) (l .entry .top) ps us rest
       → liveCount (cells (l .entry .store)) + sizes kids + owed us ≤ length (cells (l .entry .store))
-      → Within old (cells (l .store)) × Fielding old kids ps us (set (cells (l .store)) n None) (l .top) (take (l .i) (l .contents .1 .1 .0)) (drop (l .i) (take (l .entry .i) (l .contents .1 .1 .0))) rest (liveCount (set (cells (l .entry .store)) n None)))
+      → Within old (cells (l .store)) × Fielding old kids ps us (set (cells (l .store)) n None) (l .top) (take (l .i) (l .old)) (drop (l .i) (take (l .entry .i) (l .fields))) rest (liveCount (set (cells (l .entry .store)) n None)))
