@@ -4,3 +4,4 @@ pub mod Keeping
 pub mod Spares
 pub mod Walking
 pub mod Copying
+pub mod Moves
