@@ -49,7 +49,7 @@ out-reads out-none = reads-none
 out-reads (out-plain p o) = reads-plain p (out-reads o)
 out-reads {cs} (out-cell {mid = mid} {n = n} r e k o) =
     reads-cell r e (reads-within (set cs n None) cs (cleared-within cs n) (out-reads k))
-      (reads-within mid cs (λ i q h. cleared-within cs n i q (was i q h k)) (out-reads o))
+    (reads-within mid cs (λ i q h. cleared-within cs n i q (was i q h k)) (out-reads o))
 
 record ReadParts (cs : Cells) (xs ys : List Value) (ts : Trees) : Type 0 where
   left : Trees
@@ -115,9 +115,12 @@ pub record Fielding (old : Cells) (kids : Trees) (ps : List Value) (us : Trees) 
 -- one more copy before the row: a plain value
 row-plain : {old cs rest : Cells} {ps : List Value} {us : Trees} {top : ℕ} {vs : List Value} {k : Trees} {live : ℕ} (v : Value) (t : Tree) → Plain v t → Row old ps us cs top vs k rest live → Row old ps us cs top (v ∷ vs) (more t k) rest live
 row-plain v t p w = record {
-  waits = w .waits; trees = w .trees; pend = w .pend;
+  waits = w .waits;
+  trees = w .trees;
+  pend = w .pend;
   builds = λ y after o. let b = w .builds y after o in record { mid = b .mid; first = out-plain p (b .first); second = b .second };
-  owes = omega (arith, w .owes, plain-size p); counts = omega (arith, w .counts, plain-size p);
+  owes = omega (arith, w .owes, plain-size p);
+  counts = omega (arith, w .counts, plain-size p);
 }
 
 -- data at the head of a row
@@ -137,7 +140,7 @@ headed (out-cell {mid = mid} {fields = fields} {ts = ts} r e k o) = record { hol
 
 -- a new cell at the head of what waits, and the rest of it
 cell-first : (n c : ℕ) (fields trees k : Trees) (waits vs ps : List Value) (us : Trees) → ((y after : Cells) → Out y waits trees after → Two y vs k ps us after)
-  → (y after : Cells) → Out y (Cell n ∷ waits) (more (built c fields) trees) after → Two y (Cell n ∷ vs) (more (built c fields) k) ps us after
+    → (y after : Cells) → Out y (Cell n ∷ waits) (more (built c fields) trees) after → Two y (Cell n ∷ vs) (more (built c fields) k) ps us after
 cell-first n c fields trees k waits vs ps us builds y after o =
     let h = headed o in
     let shape = h .shape in
@@ -153,12 +156,13 @@ cell-first n c fields trees k waits vs ps us builds y after o =
 
 -- one more copy before the row: a new cell, which waits
 row-cell : (old cs rest : Cells) (ps : List Value) (us : Trees) (top : ℕ) (vs : List Value) (k : Trees) (live n : ℕ) (new : CellRecord) (fields : Trees) → n < 65535 → n < length cs → at cs n ≡ None → new .spare ≡ top
-  → Reads old (row new) fields → Row old ps us cs top vs k rest live → Row old ps us (set cs n (Some new)) n (Cell n ∷ vs) (more (built (new .constructor) fields) k) rest live
+    → Reads old (row new) fields → Row old ps us cs top vs k rest live → Row old ps us (set cs n (Some new)) n (Cell n ∷ vs) (more (built (new .constructor) fields) k) rest live
 row-cell old cs rest ps us top vs k live n new fields small inside free link reads w =
     let there : at (set cs n (Some new)) n ≡ Some new = at-put cs n (Some new) inside in
     let back : set (set cs n (Some new)) n None ≡ cs = set-set cs n (Some new) None ∙ set-back cs n None free in
     record {
-      waits = Cell n ∷ w .waits; trees = more (built (new .constructor) fields) (w .trees);
+      waits = Cell n ∷ w .waits;
+      trees = more (built (new .constructor) fields) (w .trees);
       pend = pend-on new small there reads (subst (λ z. Pend old z (new .spare) (w .waits) (w .trees) rest) (sym back) (subst (λ z. Pend old cs z (w .waits) (w .trees) rest) (sym link) (w .pend)));
       builds = cell-first n (new .constructor) fields (w .trees) k (w .waits) vs ps us (w .builds);
       owes = omega (arith, w .owes, count-set cs n (Some new) inside, ap one free);
@@ -168,27 +172,32 @@ row-cell old cs rest ps us top vs k live n new fields small inside free link rea
 -- no field is copied yet
 pub fielding-start : (old cs rest : Cells) (kids : Trees) (ps : List Value) (us : Trees) (top : ℕ) (all : List Value) → Reads old all kids → Pend old cs top ps us rest → Fielding old kids ps us cs top all [] rest (liveCount cs)
 fielding-start old cs rest kids ps us top all reads pend = record {
-  todo = kids; did = none; reads = reads; whole = sym (join-none kids);
+  todo = kids;
+  did = none;
+  reads = reads;
+  whole = sym (join-none kids);
   so-far = record { waits = ps; trees = us; pend = pend; builds = λ y after o. record { mid = y; first = out-none; second = o }; owes = omega arith; counts = omega arith };
 }
 
 -- one field copied; real is the store, cs what the copy sees of it
 field-turn : (old real real′ cs rest : Cells) (kids : Trees) (ps : List Value) (us : Trees) (top top′ : ℕ) (all left made : List Value) (v w : Value) (live : ℕ)
-  → all ≡ left ++ v ∷ [] → Within old real → length cs ≡ length real → length real ≤ 65535 → FieldCopied real v top w top′ real′
-  → ((m : ℕ) → at real m ≡ None → at cs m ≡ None)
-  → Fielding old kids ps us cs top all made rest live
-  → (cs′ : Cells) → ((m : ℕ) (x : Option CellRecord) → at real m ≡ None → real′ ≡ set real m x → cs′ ≡ set cs m x) → (real′ ≡ real → cs′ ≡ cs)
-  → Fielding old kids ps us cs′ top′ left (w ∷ made) rest live
+    → all ≡ left ++ v ∷ [] → Within old real → length cs ≡ length real → length real ≤ 65535 → FieldCopied real v top w top′ real′
+    → ((m : ℕ) → at real m ≡ None → at cs m ≡ None)
+    → Fielding old kids ps us cs top all made rest live
+    → (cs′ : Cells) → ((m : ℕ) (x : Option CellRecord) → at real m ≡ None → real′ ≡ set real m x → cs′ ≡ set cs m x) → (real′ ≡ real → cs′ ≡ cs)
+    → Fielding old kids ps us cs′ top′ left (w ∷ made) rest live
 field-turn old real real′ cs rest kids ps us top top′ all left made v w live e inside long small (was-plain p same up exit) free f cs′ moves stays =
     let parts = read-parts left (v ∷ []) (subst (λ z. Reads old z (f .todo)) e (f .reads)) in
     let right = read-plain p (parts .second) in
     let t = right .0 in
     let r : Row old ps us cs top (v ∷ made) (more t (f .did)) rest live = row-plain v t (right .1) (f .so-far) in
     record {
-      todo = parts .left; did = more t (f .did); reads = parts .first;
+      todo = parts .left;
+      did = more t (f .did);
+      reads = parts .first;
       whole = f .whole ∙ (ap (λ z. join z (f .did)) (parts .whole ∙ ap (λ z. join (parts .left) z) (right .2)) ∙ join-join (parts .left) (more t none) (f .did));
       so-far = subst (λ z. Row old ps us z top′ (w ∷ made) (more t (f .did)) rest live) (sym (stays exit))
-        (subst (λ z. Row old ps us cs z (w ∷ made) (more t (f .did)) rest live) (sym up)
+          (subst (λ z. Row old ps us cs z (w ∷ made) (more t (f .did)) rest live) (sym up)
           (subst (λ z. Row old ps us cs top (z ∷ made) (more t (f .did)) rest live) (sym same) r));
     }
 field-turn old real real′ cs rest kids ps us top top′ all left made v w live e inside long small (was-cell n from new v-is source alike link w-is took) free f cs′ moves stays =
@@ -199,19 +208,21 @@ field-turn old real real′ cs rest kids ps us top top′ all left made v w live
     let heads : new .constructor ≡ root .holds .constructor = alike .constructor-is ∙ sym (ap (λ (z : CellRecord). z .constructor) same) in
     let fields = root .fields in
     let r : Row old ps us (set cs top′ (Some new)) top′ (Cell top′ ∷ made) (more (built (new .constructor) fields) (f .did)) rest live =
-      row-cell old cs rest ps us top made (f .did) live top′ new fields (omega (arith, took .within)) (omega (arith, took .within)) (free top′ (took .free)) link (subst (λ z. Reads old z fields) rows (root .reads)) (f .so-far) in
+    row-cell old cs rest ps us top made (f .did) live top′ new fields (omega (arith, took .within)) (omega (arith, took .within)) (free top′ (took .free)) link (subst (λ z. Reads old z fields) rows (root .reads)) (f .so-far) in
     record {
-      todo = parts .left; did = more (built (root .holds .constructor) fields) (f .did); reads = parts .first;
+      todo = parts .left;
+      did = more (built (root .holds .constructor) fields) (f .did);
+      reads = parts .first;
       whole = f .whole ∙ (ap (λ z. join z (f .did)) (parts .whole ∙ ap (λ z. join (parts .left) z) (root .shape)) ∙ join-join (parts .left) (more (built (root .holds .constructor) fields) none) (f .did));
       so-far = subst (λ z. Row old ps us z top′ (w ∷ made) (more (built (root .holds .constructor) fields) (f .did)) rest live) (sym (moves top′ (Some new) (took .free) (took .after)))
-        (subst (λ z. Row old ps us (set cs top′ (Some new)) top′ (z ∷ made) (more (built (root .holds .constructor) fields) (f .did)) rest live) (sym w-is)
+          (subst (λ z. Row old ps us (set cs top′ (Some new)) top′ (z ∷ made) (more (built (root .holds .constructor) fields) (f .did)) rest live) (sym w-is)
           (subst (λ z. Row old ps us (set cs top′ (Some new)) top′ (Cell top′ ∷ made) (more (built z fields) (f .did)) rest live) heads r));
     }
 
 -- a field's copy is not refused: what it names is live, and a cell is free
 pub field-refused : (old real real′ cs rest : Cells) (kids : Trees) (ps : List Value) (us : Trees) (top : ℕ) (all left made : List Value) (v : Value) (live extra : ℕ)
-  → all ≡ left ++ v ∷ [] → Within old real → FieldRefused real v real′ → liveCount real ≡ liveCount cs + extra → live + extra + sizes kids + owed us ≤ length real
-  → Fielding old kids ps us cs top all made rest live → ⊥
+    → all ≡ left ++ v ∷ [] → Within old real → FieldRefused real v real′ → liveCount real ≡ liveCount cs + extra → live + extra + sizes kids + owed us ≤ length real
+    → Fielding old kids ps us cs top all made rest live → ⊥
 field-refused old real real′ cs rest kids ps us top all left made v live extra e inside (was-dead n v-is gone same) counts enough f =
     let parts = read-parts left (v ∷ []) (subst (λ z. Reads old z (f .todo)) e (f .reads)) in
     let root = read-root (subst (λ z. Reads old (z ∷ []) (parts .right)) v-is (parts .second)) in
@@ -239,27 +250,29 @@ no-more reads-none = refl
 
 -- all fields of the cell are copied, and it is written
 pub turn-end : (old entry real exit rest : Cells) (n : ℕ) (ps : List Value) (us kids ts : Trees) (top : ℕ) (left made : List Value) (r put : CellRecord) → ts ≡ more (built (r .constructor) kids) us → at entry n ≡ Some r → at real n ≡ Some r
-  → put .constructor ≡ r .constructor → row put ≡ made → exit ≡ set real n (Some put) → at old n ≡ None → Within old real → left ≡ []
-  → Fielding old kids ps us (set real n None) top left made rest (liveCount (set entry n None)) → Turned old n ps ts rest entry exit top
+    → put .constructor ≡ r .constructor → row put ≡ made → exit ≡ set real n (Some put) → at old n ≡ None → Within old real → left ≡ []
+    → Fielding old kids ps us (set real n None) top left made rest (liveCount (set entry n None)) → Turned old n ps ts rest entry exit top
 turn-end old entry real exit rest n ps us kids ts top left made r put shape at-entry at-real heads rows e new inside ended f =
     let row-now = f .so-far in
     let none-left : f .todo ≡ none = no-more (subst (λ z. Reads old z (f .todo)) ended (f .reads)) in
     let all-did : f .did ≡ kids = sym (f .whole ∙ ap (λ z. join z (f .did)) none-left) in
     let back : set (set real n None) n (Some put) ≡ exit = set-set real n None (Some put) ∙ sym e in
     record {
-      put = put; waits = row-now .waits; trees = row-now .trees;
+      put = put;
+      waits = row-now .waits;
+      trees = row-now .trees;
       pend = subst (λ z. Pend old z top (row-now .waits) (row-now .trees) (set rest n (Some put))) back (pend-frame n (Some put) (at-cleared real n) (row-now .pend));
       free = pend-free n (at-cleared real n) (row-now .pend);
       builds = λ y after z l o.
-        let two = row-now .builds y after o in
-        let there : at (set y n (Some put)) n ≡ Some put = at-put y n (Some put) l in
-        let clean : set (set y n (Some put)) n None ≡ y = set-set y n (Some put) None ∙ set-back y n None z in
-        let inner : Out (set (set y n (Some put)) n None) (row put) kids (two .mid) =
+          let two = row-now .builds y after o in
+          let there : at (set y n (Some put)) n ≡ Some put = at-put y n (Some put) l in
+          let clean : set (set y n (Some put)) n None ≡ y = set-set y n (Some put) None ∙ set-back y n None z in
+          let inner : Out (set (set y n (Some put)) n None) (row put) kids (two .mid) =
           subst (λ s. Out s (row put) kids (two .mid)) (sym clean) (subst (λ s. Out y s kids (two .mid)) (sym rows) (subst (λ s. Out y made s (two .mid)) all-did (two .first))) in
-        subst (λ s. Out (set y n (Some put)) (Cell n ∷ ps) s after) (sym shape)
+          subst (λ s. Out (set y n (Some put)) (Cell n ∷ ps) s after) (sym shape)
           (subst (λ s. Out (set y n (Some put)) (Cell n ∷ ps) (more (built s kids) us) after) heads (out-cell put there inner (two .second)));
       within = λ i q h. subst (λ z. at z i ≡ Some q) (sym e)
-        (at-other real n i (Some put) (λ s. some-none h (subst (λ z. at old z ≡ None) (sym s) new)) ∙ inside i q h);
+          (at-other real n i (Some put) (λ s. some-none h (subst (λ z. at old z ≡ None) (sym s) new)) ∙ inside i q h);
       owes = omega (arith, ap owed shape, row-now .owes, ap sizes all-did, ap liveCount e, count-set real n (Some put) (within real n r at-real), count-set real n None (within real n r at-real), count-set entry n None (within entry n r at-entry), ap one at-real, ap one at-entry);
       counts = omega (arith, ap sizes shape, row-now .counts, ap sizes all-did);
     }
@@ -288,7 +301,7 @@ adds-frame {y = y} {x = x} n r (adds-first {n = m} {r = q} {d = d} z w a) h l =
     let l₁ : n < length (set y m (Some q)) = subst (λ z. n < z) (sym (length-set y m (Some q))) l in
     let w₁ : m < length (set y n (Some r)) = subst (λ z. m < z) (sym (length-set y n (Some r))) w in
     adds-first (at-other y n m (Some r) (λ s. apart (sym s)) ∙ z) w₁
-      (subst (λ s. AddsTo d s (set x n (Some r))) (set-comm y m n (Some q) (Some r) (λ s. apart (sym s))) (adds-frame n r a h l₁))
+    (subst (λ s. AddsTo d s (set x n (Some r))) (set-comm y m n (Some q) (Some r) (λ s. apart (sym s))) (adds-frame n r a h l₁))
 
 unputs : {n : ℕ} {r : CellRecord} {d : Puts} {y x : Cells} → AddsTo (put-first n r d) y x → (at y n ≡ None) × (n < length y) × AddsTo d (set y n (Some r)) x
 unputs (adds-first z l a) = (z, l, a)
@@ -314,18 +327,22 @@ copying-start old cs ts top left w ended inside f =
     let none-left : f .todo ≡ none = no-more (subst (λ z. Reads old z (f .todo)) ended (f .reads)) in
     let all-did : f .did ≡ ts = sym (f .whole ∙ ap (λ z. join z (f .did)) none-left) in
     record {
-      puts = no-puts; waits = row-now .waits; trees = row-now .trees; rest = old;
-      pend = row-now .pend; adds = adds-none;
+      puts = no-puts;
+      waits = row-now .waits;
+      trees = row-now .trees;
+      rest = old;
+      pend = row-now .pend;
+      adds = adds-none;
       builds = λ y x after a o.
-        let two = row-now .builds y after o in
-        subst (λ z. Out z (w ∷ []) ts after) (same-store a) (subst (λ z. Out y (w ∷ []) z after) all-did (subst (λ z. Out y (w ∷ []) (f .did) z) (out-nothing (two .second) .0) (two .first)));
+          let two = row-now .builds y after o in
+          subst (λ z. Out z (w ∷ []) ts after) (same-store a) (subst (λ z. Out y (w ∷ []) z after) all-did (subst (λ z. Out y (w ∷ []) (f .did) z) (out-nothing (two .second) .0) (two .first)));
       within = inside;
       owes = omega (arith, row-now .owes, ap sizes all-did);
       counts = omega (arith, row-now .counts, ap sizes all-did);
     }
   where
-  same-store : {y x : Cells} → AddsTo no-puts y x → y ≡ x
-  same-store adds-none = refl
+    same-store : {y x : Cells} → AddsTo no-puts y x → y ≡ x
+    same-store adds-none = refl
 
 -- what waits at a head that does not end the list
 record Waiting (old cs : Cells) (top : ℕ) (waits : List Value) (trees : Trees) (rest : Cells) : Type 0 where
@@ -342,35 +359,42 @@ waiting d (pend-on {ps = ps} r b h k p) = record { others = ps; is = refl; small
 
 -- one turn of a copy
 pub copying-turn : (old cs exit : Cells) (top : ℕ) (w : Value) (ts : Trees) (count : ℕ) (res : Result ℕ WalkRefusal) → (top ≡ 65535 → ⊥) → length cs ≡ length old → liveCount old + sizes ts ≤ length old
-  → Turns cs top res exit → Copying old cs top w ts count → Okay res (λ h. Copying old exit h w ts (count + 1))
+    → Turns cs top res exit → Copying old cs top w ts count → Okay res (λ h. Copying old exit h w ts (count + 1))
 copying-turn old cs exit top w ts count res d long enough does t =
     let q = waiting d (t .pend) in
     let p : Pend old cs top (Cell top ∷ q .others) (t .trees) (t .rest) = subst (λ z. Pend old cs top z (t .trees) (t .rest)) (q .is) (t .pend) in
     let free-old : at old top ≡ None = adds-free top (t .adds) (pend-free top (at-cleared cs top) (opened p .pend)) in
     let inside : top < length old = omega (arith, within cs top (q .holds) (q .live)) in
     okay-map res _ _
-      (λ h u. record {
-        puts = put-first top (u .put) (t .puts); waits = u .waits; trees = u .trees; rest = set (t .rest) top (Some (u .put));
-        pend = u .pend;
-        adds = adds-first free-old inside (adds-frame top (u .put) (t .adds) (u .free) inside);
-        builds = λ y x after a o.
+    (λ h u. record {
+      puts = put-first top (u .put) (t .puts);
+      waits = u .waits;
+      trees = u .trees;
+      rest = set (t .rest) top (Some (u .put));
+      pend = u .pend;
+      adds = adds-first free-old inside (adds-frame top (u .put) (t .adds) (u .free) inside);
+      builds = λ y x after a o.
           let b = unputs a in
           t .builds (set y top (Some (u .put))) x after (b .2) (subst (λ z. Out (set y top (Some (u .put))) z (t .trees) after) (sym (q .is)) (u .builds y after (b .0) (b .1) o));
-        within = u .within;
-        owes = u .owes ∙ t .owes;
-        counts = omega (arith, u .counts, t .counts);
-      })
-      (does .turns old (t .rest) (q .others) (t .trees) p (t .within) free-old (omega (arith, t .owes)))
+      within = u .within;
+      owes = u .owes ∙ t .owes;
+      counts = omega (arith, u .counts, t .counts);
+    })
+    (does .turns old (t .rest) (q .others) (t .trees) p (t .within) free-old (omega (arith, t .owes)))
 
 -- a copy is complete
-pub copying-end : (old cs : Cells) (top : ℕ) (w : Value) (ts : Trees) (count : ℕ) → top ≡ 65535 → Copying old cs top w ts count → Out cs (w ∷ []) ts old
+copying-end : (old cs : Cells) (top : ℕ) (w : Value) (ts : Trees) (count : ℕ) → top ≡ 65535 → Copying old cs top w ts count → Out cs (w ∷ []) ts old
 copying-end old cs top w ts count e t =
     let p = pend-done e (t .pend) in
     t .builds old cs old (subst (λ z. AddsTo (t .puts) old z) (p .2) (t .adds)) (subst (λ z. Out old z (t .trees) old) (sym (p .0)) (subst (λ z. Out old [] z old) (sym (p .1)) out-none))
   where
-  pend-done : {from now to : Cells} {head : ℕ} {ps : List Value} {us : Trees} → head ≡ 65535 → Pend from now head ps us to → (ps ≡ []) × (us ≡ none) × (to ≡ now)
-  pend-done e (pend-end h) = (refl, refl, refl)
-  pend-done e (pend-on r b d k p) = absurd (omega arith)
+    pend-done : {from now to : Cells} {head : ℕ} {ps : List Value} {us : Trees} → head ≡ 65535 → Pend from now head ps us to → (ps ≡ []) × (us ≡ none) × (to ≡ now)
+    pend-done e (pend-end h) = (refl, refl, refl)
+    pend-done e (pend-on r b d k p) = absurd (omega arith)
+
+-- the same, for the value that is answered
+pub copied-whole : (old cs : Cells) (top : ℕ) (w answer : Value) (ts : Trees) (count : ℕ) → answer ≡ w → top ≡ 65535 → Copying old cs top w ts count → Out cs (answer ∷ []) ts old
+copied-whole old cs top w answer ts count is e t = subst (λ x. Out cs (x ∷ []) ts old) (sym is) (copying-end old cs top w ts count e t)
 
 -- the head of a copy under way
 pub copying-open : (old cs : Cells) (top : ℕ) (w : Value) (ts : Trees) (count : ℕ) → (top ≡ 65535 → ⊥) → Copying old cs top w ts count → count < sizes ts
@@ -395,25 +419,25 @@ refused-same (was-full n e v-is f) = f .same
 
 -- a field of the cell n is copied, which does not see n itself
 pub turn-field : (old real real′ rest : Cells) (kids : Trees) (ps : List Value) (us : Trees) (top top′ : ℕ) (left made : List Value) (v w : Value) (live n : ℕ) (r : CellRecord) (all : List Value)
-  → FieldCopied real v top w top′ real′ → all ≡ left ++ v ∷ [] → at real n ≡ Some r → Within old real → length real ≤ 65535
-  → Fielding old kids ps us (set real n None) top all made rest live → Fielding old kids ps us (set real′ n None) top′ left (w ∷ made) rest live
+    → FieldCopied real v top w top′ real′ → all ≡ left ++ v ∷ [] → at real n ≡ Some r → Within old real → length real ≤ 65535
+    → Fielding old kids ps us (set real n None) top all made rest live → Fielding old kids ps us (set real′ n None) top′ left (w ∷ made) rest live
 turn-field old real real′ rest kids ps us top top′ left made v w live n r all does e h inside small f =
     field-turn old real real′ (set real n None) rest kids ps us top top′ all left made v w live e inside (length-set real n None) small does
-      (λ m z. ⊎-elim (λ a. a) (λ s. s ∙ z) (cleared-or-same real m n)) f (set real′ n None)
-      (λ m x z s. ap (λ q. set q n None) s ∙ set-comm real m n x None (λ a. some-none h (subst (λ i. at real i ≡ None) a z)))
-      (λ s. ap (λ q. set q n None) s)
+    (λ m z. ⊎-elim (λ a. a) (λ s. s ∙ z) (cleared-or-same real m n)) f (set real′ n None)
+    (λ m x z s. ap (λ q. set q n None) s ∙ set-comm real m n x None (λ a. some-none h (subst (λ i. at real i ≡ None) a z)))
+    (λ s. ap (λ q. set q n None) s)
 
 -- the root is copied
 pub copying-root : (old cs : Cells) (v w : Value) (top : ℕ) (ts : Trees) → FieldCopied old v 65535 w top cs → Reads old (v ∷ []) ts → length old ≤ 65535 → Copying old cs top w ts 0
 copying-root old cs v w top ts does reads small =
     copying-start old cs ts top [] w refl (copied-within does)
-      (field-turn old old cs old old ts [] none 65535 top (v ∷ []) [] [] v w (liveCount old) refl (λ i r h. h) refl small does (λ m z. z)
-        (fielding-start old old old ts [] none 65535 (v ∷ []) reads (pend-end refl)) cs (λ m x z e. e) (λ e. e))
+    (field-turn old old cs old old ts [] none 65535 top (v ∷ []) [] [] v w (liveCount old) refl (λ i r h. h) refl small does (λ m z. z)
+    (fielding-start old old old ts [] none 65535 (v ∷ []) reads (pend-end refl)) cs (λ m x z e. e) (λ e. e))
 
 pub root-refused : (old cs : Cells) (v : Value) (ts : Trees) → FieldRefused old v cs → Reads old (v ∷ []) ts → liveCount old + sizes ts ≤ length old → ⊥
 root-refused old cs v ts does reads enough =
     field-refused old old cs old old ts [] none 65535 (v ∷ []) [] [] v (liveCount old) 0 refl (λ i r h. h) does (omega arith) (omega arith)
-      (fielding-start old old old ts [] none 65535 (v ∷ []) reads (pend-end refl))
+    (fielding-start old old old ts [] none 65535 (v ∷ []) reads (pend-end refl))
 
 -- a row, with one field of it replaced
 

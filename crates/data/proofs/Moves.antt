@@ -36,7 +36,7 @@ pull xs ys zs ts us ws p q o =
 
 -- a constructor applied: its arguments, first in the row, become the fields of a cell that was free
 pub build : (m m′ m₀ : Cells) (n : ℕ) (r : CellRecord) (vs : List Value) (fields ts : Trees) → TakenAt m r n m′ → tally fields ≡ length (row r)
-  → Out m (row r ++ vs) (join fields ts) m₀ → Out m′ (Cell n ∷ vs) (more (built (r .constructor) fields) ts) m₀
+    → Out m (row r ++ vs) (join fields ts) m₀ → Out m′ (Cell n ∷ vs) (more (built (r .constructor) fields) ts) m₀
 build m m′ m₀ n r vs fields ts took e o =
     let u = parts-at (row r) vs fields ts e o in
     let back : m ≡ set m′ n None = sym (ap (λ z. set z n None) (took .after) ∙ (set-set m n (Some r) None ∙ set-back m n None (took .free))) in
@@ -44,7 +44,7 @@ build m m′ m₀ n r vs fields ts took e o =
 
 -- a cell opened and given back: its fields come first in the row
 pub unbuild : (m m₀ : Cells) (n : ℕ) (r : CellRecord) (vs : List Value) (c : ℕ) (fields ts : Trees) → at m n ≡ Some r
-  → Out m (Cell n ∷ vs) (more (built c fields) ts) m₀ → (c ≡ r .constructor) × Out (set m n None) (row r ++ vs) (join fields ts) m₀
+    → Out m (Cell n ∷ vs) (more (built c fields) ts) m₀ → (c ≡ r .constructor) × Out (set m n None) (row r ++ vs) (join fields ts) m₀
 unbuild m m₀ n r vs c fields ts e o =
     let h = headed o in
     let shape = h .shape in

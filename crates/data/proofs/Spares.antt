@@ -46,6 +46,6 @@ respared-set cs c r q h a = record {
 pub respared-live : {a b : Cells} → Respared a b → (i : ℕ) (r : CellRecord) → at a i ≡ Some r → (q : CellRecord) × (at b i ≡ Some q) × Alike r q
 respared-live {a} {b} h i r e = found (at b i) (subst (λ z. AlikeCells z (at b i)) e (h .each i))
   where
-  found : (c : Option CellRecord) → AlikeCells (Some r) c → (q : CellRecord) × (c ≡ Some q) × Alike r q
-  found None k = absurd k
-  found (Some q) k = (q, refl, k)
+    found : (c : Option CellRecord) → AlikeCells (Some r) c → (q : CellRecord) × (c ≡ Some q) × Alike r q
+    found None k = absurd k
+    found (Some q) k = (q, refl, k)

@@ -129,6 +129,14 @@ add-cell entry exit done vs ts us m mid after v todo k r does a b w =
     })
     (does .puts done (vs ++ v ∷ []) (join ts us) (w .trees) mid (w .mid) after (w .left) (joined a b) (w .first) (w .work))
 
+-- what was at hand is pushed, and the field is at hand
+pub added-cell : (entry exit : Cells) (done : List ℕ) (vs : List Value) (ts us : Trees) (m mid after : Cells) (v : Value) (todo new : Todo) (head k : ℕ) → new .value ≡ v → new .rest ≡ head
+    → Pushes entry (todo .value) (todo .rest) (Ok head) exit → Out (less done entry) vs ts m → Out m (v ∷ []) us mid → Ahead mid (todo .value) (todo .rest) k after
+    → Added done entry exit vs ts (new .value) (new .rest) (sizes us + k) after
+added-cell entry exit done vs ts us m mid after v todo new head k v-is head-is does a b w =
+    subst (λ x. Added done entry exit vs ts x (new .rest) (sizes us + k) after) (sym v-is)
+    (subst (λ x. Added done entry exit vs ts v x (sizes us + k) after) (sym head-is) (add-cell entry exit done vs ts us m mid after v todo k (Ok head) does a b w))
+
 pub add-start : (entry : Cells) (done : List ℕ) (vs : List Value) (ts : Trees) (mid after : Cells) (todo : Todo) (k : ℕ) → todo .value ≡ Nothing → Out (less done entry) vs ts mid → Work mid (todo .rest) k after
     → Adding done entry entry vs todo (sizes ts + k) after
 add-start entry done vs ts mid after todo k unit-is a w = record {
@@ -293,6 +301,12 @@ count-turn start cs cs₁ todo visit count k after r go found does w =
     okay-map r _ _
     (λ new t. record { done = visit .cell ∷ w .done; left = t .0; ahead = t .2 .ahead; counts = omega (arith, t .1, w .counts); stands = λ ws g o. t .2 .stands ws g (w .stands ws g o) })
     (walk-turn cs cs cs₁ (w .done) (visit .cell ∷ w .done) todo visit (w .left) after r go found refl does (w .ahead))
+
+-- the same, where the count is one more
+pub counted-turn : (start cs cs₁ : Cells) (todo new : Todo) (visit : Visit) (count next k : ℕ) (after : Cells) → next ≡ count + 1 → isOpen todo ≡ true → Found cs todo visit
+    → AddsAll cs (row (visit .contents)) (visit .rest) (Ok new) cs₁ → Walked start cs todo count k after → Walked start cs₁ new next k after
+counted-turn start cs cs₁ todo new visit count next k after e go found does w =
+    subst (λ n. Walked start cs₁ new n k after) (sym e) (count-turn start cs cs₁ todo visit count k after (Ok new) go found does w)
 
 -- the last of the first i, taken off
 pub take-back : {X : Type 0} (xs : List X) (i : ℕ) (d : X) → 0 < i → i ≤ length xs → take i xs ≡ take (i - 1) xs ++ getD xs (i - 1) d ∷ []

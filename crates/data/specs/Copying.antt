@@ -51,7 +51,7 @@ owed (more t ts) = below t + owed ts
 pub data Pend (old : Cells) : Cells → ℕ → List Value → Trees → Cells → Type 0 where
   pend-end : {cs : Cells} {head : ℕ} → head ≡ 65535 → Pend old cs head [] none cs
   pend-on : {cs rest : Cells} {head : ℕ} {ps : List Value} {fields ts : Trees} (r : CellRecord) → head < 65535 → at cs head ≡ Some r
-    → Reads old (row r) fields → Pend old (set cs head None) (r .spare) ps ts rest → Pend old cs head (Cell head ∷ ps) (more (built (r .constructor) fields) ts) rest
+      → Reads old (row r) fields → Pend old (set cs head None) (r .spare) ps ts rest → Pend old cs head (Cell head ∷ ps) (more (built (r .constructor) fields) ts) rest
 
 -- one value copied: a plain one is itself; of a cell the record goes into a new cell, which waits first
 pub data FieldCopied (entry : Cells) (v : Value) (head : ℕ) (w : Value) (top : ℕ) (exit : Cells) : Type 0 where
@@ -84,7 +84,7 @@ pub record Turns (entry : Cells) (n : ℕ) (r : Result ℕ WalkRefusal) (exit : 
   pub long : length exit ≡ length entry
   pub stuck : OnlyStuck r
   pub turns : (old rest : Cells) (ps : List Value) (ts : Trees) → Pend old entry n (Cell n ∷ ps) ts rest → Within old entry → at old n ≡ None → liveCount entry + owed ts ≤ length entry
-    → Okay r (λ top. Turned old n ps ts rest entry exit top)
+      → Okay r (λ top. Turned old n ps ts rest entry exit top)
 
 -- where enough cells are free: a value for the same trees, in cells that were free, and no other cell is changed
 pub record CopiesCells (entry : Cells) (v : Value) (r : Result Value WalkRefusal) (exit : Cells) : Type 0 where

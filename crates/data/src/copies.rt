@@ -1,13 +1,13 @@
 ghost use Rattle.data.specs.Walks.{Copies};
 ghost use Rattle.data.specs.Copying.{CopiesField, Turns, CopiesCells, Rooms};
-use cells::records::CellRecord;
-use cells::store::CellStore;
-use cells::values::Value;
 use crate::copied::Copied;
 use crate::refusals::WalkRefusal;
 use crate::sizes::size_of;
 use crate::work_list::END;
 use crate::work_list::look;
+use cells::records::CellRecord;
+use cells::store::CellStore;
+use cells::values::Value;
 
 // Copies one value: a plain one is itself; of data the first record goes into a new cell, which waits before `head`.
 fn copy_field<S: CellStore>(store: &mut S, value: Value, head: u32) -> Result<Copied, WalkRefusal>

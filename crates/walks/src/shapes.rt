@@ -6,7 +6,9 @@ use data::copies::copy_value;
 use data::refusals::WalkRefusal;
 
 const NIL: u16 = 0;
+
 const PAIR: u16 = 1;
+
 const SIX: u16 = 2;
 
 pub fn take<S: CellStore>(store: &mut S, contents: CellRecord) -> Result<u16, WalkRefusal> {

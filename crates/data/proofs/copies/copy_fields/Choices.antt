@@ -19,5 +19,5 @@ Inv-loop-i g l =
     × (length (l .fields) ≡ length (l .entry .fields))
     × (drop (l .entry .i) (l .fields) ≡ drop (l .entry .i) (l .entry .fields))
     × ((old rest : Cells) (ps : List Value) (us kids : Trees) → Within old (cells (l .entry .store)) → Reads old (take (l .entry .i) (l .old)) kids → Pend old (set (cells (l .entry .store)) n None) (l .entry .top) ps us rest
-      → liveCount (cells (l .entry .store)) + sizes kids + owed us ≤ length (cells (l .entry .store))
-      → Within old (cells (l .store)) × Fielding old kids ps us (set (cells (l .store)) n None) (l .top) (take (l .i) (l .old)) (drop (l .i) (take (l .entry .i) (l .fields))) rest (liveCount (set (cells (l .entry .store)) n None)))
+    → liveCount (cells (l .entry .store)) + sizes kids + owed us ≤ length (cells (l .entry .store))
+    → Within old (cells (l .store)) × Fielding old kids ps us (set (cells (l .store)) n None) (l .top) (take (l .i) (l .old)) (drop (l .i) (take (l .entry .i) (l .fields))) rest (liveCount (set (cells (l .entry .store)) n None)))

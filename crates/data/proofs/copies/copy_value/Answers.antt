@@ -17,7 +17,8 @@ pub returns-in-Break-room : need.returns-in-Break-room
 returns-in-Break-room g c =
     let sized = c .in-Break-room .ensures tt in
     record {
-      long = sized .long; refused = λ e. sized .same;
+      long = sized .long;
+      refused = λ e. sized .same;
       copies = λ t m₀ k. absurd (false≢true (ap isOk (sized .tells t m₀ k .0)));
     }
 
@@ -26,11 +27,12 @@ returns-then-not-room g c =
     let entry = g .S·CellStore .cells (c .args .store .now) in
     let sized = c .in-Continue-room .ensures tt in
     record {
-      long = sized .long; refused = λ e. sized .same;
+      long = sized .long;
+      refused = λ e. sized .same;
       copies = λ t m₀ k.
-        let z = sized .tells t m₀ k in
-        let test : leb (liveCount entry + size t) (length entry) ≡ c .in-Continue-room .room = let y = z .0 in cc in
-        record { number = refl; short = leb-false _ _ (test ∙ c .if-not-room .taken); still = z .1; same = sized .same };
+          let z = sized .tells t m₀ k in
+          let test : leb (liveCount entry + size t) (length entry) ≡ c .in-Continue-room .room = let y = z .0 in cc in
+          record { number = refl; short = leb-false _ _ (test ∙ c .if-not-room .taken); still = z .1; same = sized .same };
     }
 
 pub returns : need.returns
@@ -40,11 +42,12 @@ returns g c =
     let sized = c .in-Continue-room .ensures tt in
     let does = c .copy-cells .ensures in
     record {
-      long = does .long ∙ sized .long; refused = λ e. absurd (only-stuck _ (does .stuck) e);
+      long = does .long ∙ sized .long;
+      refused = λ e. absurd (only-stuck _ (does .stuck) e);
       copies = λ t m₀ k.
-        let z = sized .tells t m₀ k in
-        let test : leb (liveCount entry + size t) (length entry) ≡ c .in-Continue-room .room = let y = z .0 in cc in
-        let enough : liveCount entry + size t ≤ length entry = leb-true _ _ (test ∙ c .if-not-room .left) in
-        let o = out-from-keeps m₀ mid _ _ (z .1) in
-        copy-says entry mid _ m₀ (c .args .value) t _ (does .copies (more t none) (out-reads o) (omega (arith, out-count o)) (omega (arith, enough, sized .long, sized .live))) o (sized .same) enough;
+          let z = sized .tells t m₀ k in
+          let test : leb (liveCount entry + size t) (length entry) ≡ c .in-Continue-room .room = let y = z .0 in cc in
+          let enough : liveCount entry + size t ≤ length entry = leb-true _ _ (test ∙ c .if-not-room .left) in
+          let o = out-from-keeps m₀ mid _ _ (z .1) in
+          copy-says entry mid _ m₀ (c .args .value) t _ (does .copies (more t none) (out-reads o) (omega (arith, out-count o)) (omega (arith, enough, sized .long, sized .live))) o (sized .same) enough;
     }

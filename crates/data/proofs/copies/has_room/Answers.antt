@@ -27,17 +27,23 @@ pub returns-then-free-live : need.returns-then-free-live
 returns-then-free-live g c =
     let entry = g .S·CellStore .cells (c .args .store .now) in
     record {
-      long = refl; live = refl; same = respared-none _; stuck = tt;
+      long = refl;
+      live = refl;
+      same = respared-none _;
+      stuck = tt;
       tells = λ t m₀ k.
-        let enough : liveCount entry + size t ≤ length entry = omega (arith, out-count (out-from-keeps m₀ entry _ _ k), c .live-count-live .ensures, c .capacity .ensures, c .if-free-live .taken) in
-        (ap Ok (sym (le-leb _ _ enough)), k);
+          let enough : liveCount entry + size t ≤ length entry = omega (arith, out-count (out-from-keeps m₀ entry _ _ k), c .live-count-live .ensures, c .capacity .ensures, c .if-free-live .taken) in
+          (ap Ok (sym (le-leb _ _ enough)), k);
     }
 
 pub returns-in-Break-count : need.returns-in-Break-count
 returns-in-Break-count g c =
     let sized = c .in-Break-count .ensures tt in
     record {
-      long = sized .long; live = sized .live; same = sized .same; stuck = search needs;
+      long = sized .long;
+      live = sized .live;
+      same = sized .same;
+      stuck = search needs;
       tells = λ t m₀ k. absurd (false≢true (ap isOk (sized .counts t m₀ k .0)));
     }
 
@@ -46,9 +52,12 @@ returns g c =
     let entry = g .S·CellStore .cells (c .args .store .now) in
     let sized = c .in-Continue-count .ensures tt in
     record {
-      long = sized .long; live = sized .live; same = sized .same; stuck = tt;
+      long = sized .long;
+      live = sized .live;
+      same = sized .same;
+      stuck = tt;
       tells = λ t m₀ k.
-        let z = sized .counts t m₀ k in
-        let count-is : c .in-Continue-count .count ≡ size t = let y = z .0 in cc in
-        (ap Ok (same-test _ _ _ _ (λ h. omega (arith, count-is, count-le entry, c .live-count-live .ensures, c .capacity .ensures)) (λ h. omega (arith, count-is, count-le entry, c .live-count-live .ensures, c .capacity .ensures))), z .1);
+          let z = sized .counts t m₀ k in
+          let count-is : c .in-Continue-count .count ≡ size t = let y = z .0 in cc in
+          (ap Ok (same-test _ _ _ _ (λ h. omega (arith, count-is, count-le entry, c .live-count-live .ensures, c .capacity .ensures)) (λ h. omega (arith, count-is, count-le entry, c .live-count-live .ensures, c .capacity .ensures))), z .1);
     }

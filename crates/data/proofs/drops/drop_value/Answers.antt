@@ -3,6 +3,8 @@ use mathlib.Core.Path.{_≡_, refl, sym, ap, _∙_}
 use mathlib.Core.Bool.{true, false}
 use mathlib.Core.List.{[]}
 use Prim.Native.Nat.{_≤_}
+use lib.ListN.{set}
+use Rattle.std.specs.declared.option.Option.the-variants.{None}
 use native.Mathlib.Omega.{arith}
 use Rattle.std.specs.declared.result.Result.the-variants.{Ok}
 use Rattle.cells.proofs.CellLaws.{count-le}
@@ -27,13 +29,14 @@ pub returns-in-Break-todo : need.returns-in-Break-todo
 returns-in-Break-todo g c =
     let does = c .in-Break-todo .ensures tt in
     let gave = c .in-Ok .ensures tt in
+    let freed : g .S·CellStore .cells (c .give-back .last .self) ≡ set (g .S·CellStore .cells (c .walk .store)) (c .in-Continue-visit .visit .cell) None = let e = gave .after in cc in
     record {
       long = does .long ∙ (changed-capacity gave ∙ c .walk .inv .0);
       stuck = search needs;
       frees = λ t m₀ k.
           let w = c .walk .inv .2 (size t) m₀ (walk-start _ _ (c .args .value) t m₀ refl refl (out-from-keeps m₀ _ _ _ k)) in
           let go : isOpen (c .walk .todo) ≡ true = sym (c .is-open .ensures) ∙ c .walk-test .taken in
-          absurd (walk-turn _ _ _ [] [] (c .walk .todo) _ (w .0) m₀ _ go (c .in-Continue-visit .ensures tt) (gave .after) does (w .2));
+          absurd (walk-turn _ _ _ [] [] (c .walk .todo) _ (w .0) m₀ _ go (c .in-Continue-visit .ensures tt) freed does (w .2));
     }
 
 pub add-count : need.add-count
@@ -48,12 +51,13 @@ pub walk-again : need.walk-again
 walk-again g c =
     let does = c .in-Continue-todo .ensures tt in
     let gave = c .in-Ok .ensures tt in
+    let freed : g .S·CellStore .cells (c .give-back .last .self) ≡ set (g .S·CellStore .cells (c .walk .store)) (c .in-Continue-visit .visit .cell) None = let e = gave .after in cc in
     let go : isOpen (c .walk .todo) ≡ true = sym (c .is-open .ensures) ∙ c .walk-test .taken in (
       does .long ∙ (changed-capacity gave ∙ c .walk .inv .0),
       omega (arith, c .walk .inv .1, does .live, given-count gave),
       λ k after a.
           let w = c .walk .inv .2 k after a in
-          let t = walk-turn _ _ _ [] [] (c .walk .todo) _ (w .0) after _ go (c .in-Continue-visit .ensures tt) (gave .after) does (w .2) in
+          let t = walk-turn _ _ _ [] [] (c .walk .todo) _ (w .0) after _ go (c .in-Continue-visit .ensures tt) freed does (w .2) in
           (t .0, omega (arith, t .1, w .1), t .2 .ahead),
     )
 

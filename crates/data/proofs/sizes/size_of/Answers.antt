@@ -11,7 +11,7 @@ use Rattle.data.specs.WorkLists.{isOpen}
 use Rattle.data.proofs.Outs.{out-count}
 use Rattle.data.proofs.Keeping.{keeps-from-out, out-from-keeps}
 use Rattle.data.proofs.Spares.{respared-none, respared-more}
-use Rattle.data.proofs.Walking.{walk-start, open-some, never-lost, count-turn, walk-done}
+use Rattle.data.proofs.Walking.{walk-start, open-some, never-lost, count-turn, counted-turn, walk-done}
 use Rattle.data.proofs.sizes.size_of.Needs as need
 
 pub walk-holds : need.walk-holds
@@ -65,7 +65,7 @@ walk-again g c =
       does .long ∙ c .walk .inv .0,
       does .live ∙ c .walk .inv .1,
       respared-more (c .walk .inv .2) (does .same),
-      λ k after a. count-turn _ _ _ (c .walk .todo) _ _ k after _ go (c .in-Continue-visit .ensures tt) does (c .walk .inv .3 k after a),
+      λ k after a. counted-turn _ _ _ (c .walk .todo) _ _ (c .walk .count) _ k after (omega arith) go (c .in-Continue-visit .ensures tt) does (c .walk .inv .3 k after a),
     )
 
 pub returns : need.returns

@@ -1,7 +1,7 @@
 use borrow.Author.Needs.{needs}
 use mathlib.Core.Path.{refl}
 use Rattle.data.proofs.Spares.{respared-none}
-use Rattle.data.proofs.Walking.{not-cell, add-plain, add-cell}
+use Rattle.data.proofs.Walking.{not-cell, add-plain, add-cell, added-cell}
 use Rattle.data.proofs.work_list.add_field.Needs as need
 
 pub returns-in-Break-rest : need.returns-in-Break-rest
@@ -23,7 +23,7 @@ returns-in-Continue-rest g c =
       live = does .live;
       same = does .same;
       stuck = tt;
-      puts = λ done vs ts us m mid after k a b w. add-cell _ _ done vs ts us m mid after (c .args .field) (c .args .todo) k _ does a b w;
+      puts = λ done vs ts us m mid after k a b w. added-cell _ _ done vs ts us m mid after (c .args .field) (c .args .todo) _ (c .in-Continue-rest .rest) k (cc) (cc) does a b w;
     }
 
 pub returns-in-rest : need.returns-in-rest

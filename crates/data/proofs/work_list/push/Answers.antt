@@ -33,13 +33,14 @@ returns-in-Ok g c =
     let put = c .with-spare .ensures in
     let seen = c .in-Continue-contents .ensures tt in
     let wrote = c .in-Ok .ensures tt in
+    let link : q .spare ≡ c .args .head = let e = put .spare-is in cc in
     record {
       long = changed-capacity wrote;
       live = written-count wrote;
       same = subst (λ z. Respared entry z) (sym (wrote .after)) (respared-set entry n r q (seen .0) (alike-put put));
       stuck = tt;
       puts = λ done vs ts us m mid after k a b w.
-          push-cell entry _ done vs ts us m mid after n (c .args .head) k r q (seen .1) (seen .0) (alike-put put) (put .spare-is) (wrote .after)
+          push-cell entry _ done vs ts us m mid after n (c .args .head) k r q (seen .1) (seen .0) (alike-put put) link (wrote .after)
           a (subst (λ v. Out m (v ∷ []) us mid) (c .in-Cell .is) b) w;
     }
 
