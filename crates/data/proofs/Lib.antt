@@ -1,0 +1,7 @@
+pub mod Stores
+pub mod Outs
+pub mod Keeping
+pub mod Spares
+pub mod Walking
+pub mod Copying
+pub mod Moves

@@ -1,0 +1,36 @@
+use borrow.Author.Needs.{needs}
+use mathlib.Core.Path.{refl}
+use Rattle.data.proofs.Spares.{respared-none}
+use Rattle.data.proofs.Walking.{not-cell, add-plain, add-cell, added-cell}
+use Rattle.data.proofs.work_list.add_field.Needs as need
+
+pub returns-in-Break-rest : need.returns-in-Break-rest
+returns-in-Break-rest g c =
+    let does = c .in-Break-rest .ensures tt in
+    record {
+      long = does .long;
+      live = does .live;
+      same = does .same;
+      stuck = search needs;
+      puts = λ done vs ts us m mid after k a b w. absurd (add-cell _ _ done vs ts us m mid after (c .args .field) (c .args .todo) k _ does a b w);
+    }
+
+pub returns-in-Continue-rest : need.returns-in-Continue-rest
+returns-in-Continue-rest g c =
+    let does = c .in-Continue-rest .ensures tt in
+    record {
+      long = does .long;
+      live = does .live;
+      same = does .same;
+      stuck = tt;
+      puts = λ done vs ts us m mid after k a b w. added-cell _ _ done vs ts us m mid after (c .args .field) (c .args .todo) _ (c .in-Continue-rest .rest) k (cc) (cc) does a b w;
+    }
+
+pub returns-in-rest : need.returns-in-rest
+returns-in-rest g c = record {
+  long = refl;
+  live = refl;
+  same = respared-none _;
+  stuck = tt;
+  puts = λ done vs ts us m mid after k a b w. add-plain _ done vs ts us m mid after (c .args .field) (c .args .todo) k (not-cell (c .args .field) (c .in-rest .not-Cell)) a b w;
+}
