@@ -62,22 +62,7 @@ fn on_ints(basis: Basis, a: i32, b: i32) -> Applied
         Basis::BitXor => Applied::Int(bit_xor(a, b)),
         Basis::ShiftLeft => answer(shift_left(a, b)),
         Basis::ShiftRight => answer(shift_right(a, b)),
-        Basis::EqualBool
-        | Basis::EqualSym
-        | Basis::EqualUnit
-        | Basis::Negate
-        | Basis::Not
-        | Basis::And
-        | Basis::Or
-        | Basis::Xor
-        | Basis::Complement
-        | Basis::PrintInt
-        | Basis::PrintBool
-        | Basis::PrintSym
-        | Basis::PrintUnit
-        | Basis::PrintNewline
-        | Basis::PrintAscii
-        | Basis::Input => Applied::Mismatch,
+        _ => Applied::Mismatch,
     }
 }
 
@@ -90,35 +75,7 @@ fn on_bools(basis: Basis, a: bool, b: bool) -> Applied
         Basis::And => Applied::Bool(a && b),
         Basis::Or => Applied::Bool(a || b),
         Basis::Xor => Applied::Bool(a != b),
-        Basis::EqualInt
-        | Basis::EqualSym
-        | Basis::EqualUnit
-        | Basis::Add
-        | Basis::Subtract
-        | Basis::Multiply
-        | Basis::Divide
-        | Basis::Remainder
-        | Basis::UnsignedDivide
-        | Basis::UnsignedRemainder
-        | Basis::Negate
-        | Basis::Greater
-        | Basis::Less
-        | Basis::GreaterOrEqual
-        | Basis::LessOrEqual
-        | Basis::Not
-        | Basis::BitAnd
-        | Basis::BitOr
-        | Basis::BitXor
-        | Basis::ShiftLeft
-        | Basis::ShiftRight
-        | Basis::Complement
-        | Basis::PrintInt
-        | Basis::PrintBool
-        | Basis::PrintSym
-        | Basis::PrintUnit
-        | Basis::PrintNewline
-        | Basis::PrintAscii
-        | Basis::Input => Applied::Mismatch,
+        _ => Applied::Mismatch,
     }
 }
 
@@ -128,38 +85,7 @@ fn on_syms(basis: Basis, a: u32, b: u32) -> Applied
 {
     match basis {
         Basis::EqualSym => Applied::Bool(a == b),
-        Basis::EqualInt
-        | Basis::EqualBool
-        | Basis::EqualUnit
-        | Basis::Add
-        | Basis::Subtract
-        | Basis::Multiply
-        | Basis::Divide
-        | Basis::Remainder
-        | Basis::UnsignedDivide
-        | Basis::UnsignedRemainder
-        | Basis::Negate
-        | Basis::Greater
-        | Basis::Less
-        | Basis::GreaterOrEqual
-        | Basis::LessOrEqual
-        | Basis::Not
-        | Basis::And
-        | Basis::Or
-        | Basis::Xor
-        | Basis::BitAnd
-        | Basis::BitOr
-        | Basis::BitXor
-        | Basis::ShiftLeft
-        | Basis::ShiftRight
-        | Basis::Complement
-        | Basis::PrintInt
-        | Basis::PrintBool
-        | Basis::PrintSym
-        | Basis::PrintUnit
-        | Basis::PrintNewline
-        | Basis::PrintAscii
-        | Basis::Input => Applied::Mismatch,
+        _ => Applied::Mismatch,
     }
 }
 
@@ -169,38 +95,7 @@ fn on_units(basis: Basis) -> Applied
 {
     match basis {
         Basis::EqualUnit => Applied::Bool(true),
-        Basis::EqualInt
-        | Basis::EqualBool
-        | Basis::EqualSym
-        | Basis::Add
-        | Basis::Subtract
-        | Basis::Multiply
-        | Basis::Divide
-        | Basis::Remainder
-        | Basis::UnsignedDivide
-        | Basis::UnsignedRemainder
-        | Basis::Negate
-        | Basis::Greater
-        | Basis::Less
-        | Basis::GreaterOrEqual
-        | Basis::LessOrEqual
-        | Basis::Not
-        | Basis::And
-        | Basis::Or
-        | Basis::Xor
-        | Basis::BitAnd
-        | Basis::BitOr
-        | Basis::BitXor
-        | Basis::ShiftLeft
-        | Basis::ShiftRight
-        | Basis::Complement
-        | Basis::PrintInt
-        | Basis::PrintBool
-        | Basis::PrintSym
-        | Basis::PrintUnit
-        | Basis::PrintNewline
-        | Basis::PrintAscii
-        | Basis::Input => Applied::Mismatch,
+        _ => Applied::Mismatch,
     }
 }
 
@@ -213,35 +108,7 @@ fn on_int(basis: Basis, a: i32) -> Applied
         Basis::Complement => Applied::Int(complement(a)),
         Basis::PrintInt => Applied::Prints(Print::Int(a)),
         Basis::PrintAscii => Applied::Prints(Print::Byte(low_byte(a))),
-        Basis::EqualInt
-        | Basis::EqualBool
-        | Basis::EqualSym
-        | Basis::EqualUnit
-        | Basis::Add
-        | Basis::Subtract
-        | Basis::Multiply
-        | Basis::Divide
-        | Basis::Remainder
-        | Basis::UnsignedDivide
-        | Basis::UnsignedRemainder
-        | Basis::Greater
-        | Basis::Less
-        | Basis::GreaterOrEqual
-        | Basis::LessOrEqual
-        | Basis::Not
-        | Basis::And
-        | Basis::Or
-        | Basis::Xor
-        | Basis::BitAnd
-        | Basis::BitOr
-        | Basis::BitXor
-        | Basis::ShiftLeft
-        | Basis::ShiftRight
-        | Basis::PrintBool
-        | Basis::PrintSym
-        | Basis::PrintUnit
-        | Basis::PrintNewline
-        | Basis::Input => Applied::Mismatch,
+        _ => Applied::Mismatch,
     }
 }
 
@@ -252,37 +119,7 @@ fn on_bool(basis: Basis, a: bool) -> Applied
     match basis {
         Basis::Not => Applied::Bool(!a),
         Basis::PrintBool => Applied::Prints(Print::Bool(a)),
-        Basis::EqualInt
-        | Basis::EqualBool
-        | Basis::EqualSym
-        | Basis::EqualUnit
-        | Basis::Add
-        | Basis::Subtract
-        | Basis::Multiply
-        | Basis::Divide
-        | Basis::Remainder
-        | Basis::UnsignedDivide
-        | Basis::UnsignedRemainder
-        | Basis::Negate
-        | Basis::Greater
-        | Basis::Less
-        | Basis::GreaterOrEqual
-        | Basis::LessOrEqual
-        | Basis::And
-        | Basis::Or
-        | Basis::Xor
-        | Basis::BitAnd
-        | Basis::BitOr
-        | Basis::BitXor
-        | Basis::ShiftLeft
-        | Basis::ShiftRight
-        | Basis::Complement
-        | Basis::PrintInt
-        | Basis::PrintSym
-        | Basis::PrintUnit
-        | Basis::PrintNewline
-        | Basis::PrintAscii
-        | Basis::Input => Applied::Mismatch,
+        _ => Applied::Mismatch,
     }
 }
 
@@ -292,38 +129,7 @@ fn on_sym(basis: Basis, a: u32) -> Applied
 {
     match basis {
         Basis::PrintSym => Applied::Prints(Print::Sym(a)),
-        Basis::EqualInt
-        | Basis::EqualBool
-        | Basis::EqualSym
-        | Basis::EqualUnit
-        | Basis::Add
-        | Basis::Subtract
-        | Basis::Multiply
-        | Basis::Divide
-        | Basis::Remainder
-        | Basis::UnsignedDivide
-        | Basis::UnsignedRemainder
-        | Basis::Negate
-        | Basis::Greater
-        | Basis::Less
-        | Basis::GreaterOrEqual
-        | Basis::LessOrEqual
-        | Basis::Not
-        | Basis::And
-        | Basis::Or
-        | Basis::Xor
-        | Basis::BitAnd
-        | Basis::BitOr
-        | Basis::BitXor
-        | Basis::ShiftLeft
-        | Basis::ShiftRight
-        | Basis::Complement
-        | Basis::PrintInt
-        | Basis::PrintBool
-        | Basis::PrintUnit
-        | Basis::PrintNewline
-        | Basis::PrintAscii
-        | Basis::Input => Applied::Mismatch,
+        _ => Applied::Mismatch,
     }
 }
 
@@ -333,38 +139,7 @@ fn on_unit(basis: Basis) -> Applied
 {
     match basis {
         Basis::PrintUnit => Applied::Prints(Print::Unit),
-        Basis::EqualInt
-        | Basis::EqualBool
-        | Basis::EqualSym
-        | Basis::EqualUnit
-        | Basis::Add
-        | Basis::Subtract
-        | Basis::Multiply
-        | Basis::Divide
-        | Basis::Remainder
-        | Basis::UnsignedDivide
-        | Basis::UnsignedRemainder
-        | Basis::Negate
-        | Basis::Greater
-        | Basis::Less
-        | Basis::GreaterOrEqual
-        | Basis::LessOrEqual
-        | Basis::Not
-        | Basis::And
-        | Basis::Or
-        | Basis::Xor
-        | Basis::BitAnd
-        | Basis::BitOr
-        | Basis::BitXor
-        | Basis::ShiftLeft
-        | Basis::ShiftRight
-        | Basis::Complement
-        | Basis::PrintInt
-        | Basis::PrintBool
-        | Basis::PrintSym
-        | Basis::PrintNewline
-        | Basis::PrintAscii
-        | Basis::Input => Applied::Mismatch,
+        _ => Applied::Mismatch,
     }
 }
 
@@ -375,37 +150,7 @@ pub fn apply_none(basis: Basis) -> Applied
     match basis {
         Basis::PrintNewline => Applied::Prints(Print::Newline),
         Basis::Input => Applied::Reads,
-        Basis::EqualInt
-        | Basis::EqualBool
-        | Basis::EqualSym
-        | Basis::EqualUnit
-        | Basis::Add
-        | Basis::Subtract
-        | Basis::Multiply
-        | Basis::Divide
-        | Basis::Remainder
-        | Basis::UnsignedDivide
-        | Basis::UnsignedRemainder
-        | Basis::Negate
-        | Basis::Greater
-        | Basis::Less
-        | Basis::GreaterOrEqual
-        | Basis::LessOrEqual
-        | Basis::Not
-        | Basis::And
-        | Basis::Or
-        | Basis::Xor
-        | Basis::BitAnd
-        | Basis::BitOr
-        | Basis::BitXor
-        | Basis::ShiftLeft
-        | Basis::ShiftRight
-        | Basis::Complement
-        | Basis::PrintInt
-        | Basis::PrintBool
-        | Basis::PrintSym
-        | Basis::PrintUnit
-        | Basis::PrintAscii => Applied::Mismatch,
+        _ => Applied::Mismatch,
     }
 }
 
