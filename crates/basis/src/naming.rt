@@ -1,7 +1,6 @@
 // The names of the basis: one list of them all, each name a part of it, and the function that has a name.
 ghost use mathlib.Core.Path.{_≡_};
 ghost use Prim.Native.Nat.{_≤_};
-ghost use lib.ListN.{length};
 ghost use Rattle.std.specs.Options.{Cases};
 ghost use Rattle.std.specs.shelf.Text.{sameBytes};
 ghost use Rattle.basis.specs.Numbers.{equalities, arithmetic, comparisons, logic, bitwise, exchange};
