@@ -12,21 +12,24 @@ use Rattle.data.specs.declared.refusals.WalkRefusal.the-variants.{NoFreeCell}
 use Rattle.data.specs.Trees.{Tree, none, more, size}
 use Rattle.data.specs.Standing.{Keeps}
 use Rattle.data.specs.Alike.{Respared, Kept}
+use Rattle.data.specs.Reaching.{Untouched}
 use Rattle.data.specs.Refusals.{OnlyStuck}
 
--- size: on any store only spare numbers change. Where the value stands for a tree, the answer is the tree's size, and
+-- size: on any store only spare numbers change, of cells that can be reached from the value. Where the value stands for a tree, the answer is the tree's size, and
 -- the value stands for it as before; all else is as it was, spare numbers included.
 pub record Sizes (entry : Cells) (v : Value) (r : Result ℕ WalkRefusal) (exit : Cells) : Type 0 where
   pub long : length exit ≡ length entry
   pub live : liveCount exit ≡ liveCount entry
   pub same : Respared entry exit
   pub stuck : OnlyStuck r
+  pub far : Untouched entry v exit
   pub counts : (t : Tree) (m₀ : Cells) → Keeps m₀ entry (v ∷ []) (more t none) → (r ≡ Ok (size t)) × Keeps m₀ exit (v ∷ []) (more t none)
 
--- drop: where the value stands for a tree, its cells are free, as many as the answer says, and all else is as it was
+-- drop: on any store no cell changes that cannot be reached from the value. Where the value stands for a tree, its cells are free, as many as the answer says, and all else is as it was
 pub record Drops (entry : Cells) (v : Value) (r : Result ℕ WalkRefusal) (exit : Cells) : Type 0 where
   pub long : length exit ≡ length entry
   pub stuck : OnlyStuck r
+  pub far : Untouched entry v exit
   pub frees : (t : Tree) (m₀ : Cells) → Keeps m₀ entry (v ∷ []) (more t none) → (r ≡ Ok (size t)) × (exit ≡ m₀)
 
 -- copy, where the value stands for the tree t and m₀ is the rest of the store: enough cells were free, and the store
