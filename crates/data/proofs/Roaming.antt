@@ -145,7 +145,7 @@ roams-found {m} {cs} {root} todo visit small (by-list v-is list-is there rest-is
 pub no-answer : {X : Type 0} {r : Result X WalkRefusal} {x : X} → isErr r ≡ true → r ≡ Ok x → ⊥
 no-answer h e = false≢true (sym (ap isErr e) ∙ h)
 
-ok-same : {X : Type 0} {x y : X} → _≡_ {A = Result X WalkRefusal} (Ok x) (Ok y) → x ≡ y
+pub ok-same : {X : Type 0} {x y : X} → _≡_ {A = Result X WalkRefusal} (Ok x) (Ok y) → x ≡ y
 ok-same e = cc
 
 -- what is answered
@@ -154,6 +154,9 @@ roams-head {m} {cs} {root} {v} e w = subst (λ x. Roams m root cs v x) (ok-same 
 
 pub roams-todo : {m cs : Cells} {root : Value} {a b : Todo} → _≡_ {A = Result Todo WalkRefusal} (Ok a) (Ok b) → Roams m root cs (a .value) (a .rest) → Roams m root cs (b .value) (b .rest)
 roams-todo {m} {cs} {root} e w = subst (λ (x : Todo). Roams m root cs (x .value) (x .rest)) (ok-same e) w
+
+pub roams-at : {m cs : Cells} {root v : Value} {head : ℕ} (new : Todo) → new .value ≡ v → new .rest ≡ head → Roams m root cs v head → Roams m root cs (new .value) (new .rest)
+roams-at {m} {cs} {root} {v} new v-is head-is w = subst (λ x. Roams m root cs x (new .rest)) (sym v-is) (subst (λ x. Roams m root cs v x) (sym head-is) w)
 
 -- one value
 pub can-reach-one : {m : Cells} {root v : Value} → ((n : ℕ) → v ≡ Cell n → Reached m root n) → CanReach m root (v ∷ [])

@@ -2,7 +2,7 @@ use borrow.Author.Needs.{needs}
 use mathlib.Core.Path.{refl}
 use Rattle.data.proofs.Spares.{respared-none}
 use Rattle.data.specs.Reaching.{has-first}
-use Rattle.data.proofs.Roaming.{roams-untouched, roams-hand, no-answer, roams-todo}
+use Rattle.data.proofs.Roaming.{roams-untouched, roams-hand, no-answer, ok-same, roams-todo, roams-at}
 use Rattle.data.proofs.Walking.{not-cell, add-plain, add-cell, added-cell}
 use Rattle.data.proofs.work_list.add_field.Needs as need
 
@@ -28,7 +28,7 @@ returns-in-Continue-rest g c =
       same = does .same;
       stuck = tt;
       far = λ m root w. does .far m root w;
-      roams = λ m root new e w can. roams-todo e (roams-hand (c .args .field) (λ n h. can .each n (has-first h)) (does .roams m root _ refl w));
+      roams = λ m root new e w can. let same = ok-same e in roams-at new (cc) (cc) (roams-hand (c .args .field) (λ n h. can .each n (has-first h)) (does .roams m root (c .in-Continue-rest .rest) refl w));
       puts = λ done vs ts us m mid after k a b w. added-cell _ _ done vs ts us m mid after (c .args .field) (c .args .todo) _ (c .in-Continue-rest .rest) k (cc) (cc) does a b w;
     }
 
