@@ -125,13 +125,6 @@ pub record Adds (entry : Cells) (field : Value) (todo : Todo) (r : Result Todo W
   pub puts : (done : List ℕ) (vs : List Value) (ts us : Trees) (m mid after : Cells) (k : ℕ) → Out (less done entry) vs ts m → Out m (field ∷ []) us mid → Ahead mid (todo .value) (todo .rest) k after
       → Okay r (λ new. Added done entry exit vs ts (new .value) (new .rest) (sizes us + k) after)
 
--- a row of values being put ahead, the last first: so far down to vs, total cells in all
-pub record Adding (done : List ℕ) (start current : Cells) (vs : List Value) (todo : Todo) (total : ℕ) (after : Cells) : Type 0 where
-  pub trees : Trees
-  pub left : ℕ
-  pub added : Added done start current vs trees (todo .value) (todo .rest) left after
-  pub counts : sizes trees + left ≡ total
-
 -- all of the row is ahead
 pub record Listed (done : List ℕ) (entry exit : Cells) (todo : Todo) (k : ℕ) (after : Cells) : Type 0 where
   pub ahead : Ahead (less done exit) (todo .value) (todo .rest) k after
@@ -147,11 +140,3 @@ pub record AddsAll (entry : Cells) (vs : List Value) (head : ℕ) (r : Result To
   pub roams : (m : Cells) (root : Value) (new : Todo) → r ≡ Ok new → Roams m root entry Nothing head → CanReach m root vs → Roams m root exit (new .value) (new .rest)
   pub puts : (done : List ℕ) (ts : Trees) (mid after : Cells) (k : ℕ) → Out (less done entry) vs ts mid → Work mid head k after
       → Okay r (λ todo. Listed done entry exit todo (sizes ts + k) after)
-
--- a walk that has left some of the k cells behind
-pub record Walked (start current : Cells) (todo : Todo) (count k : ℕ) (after : Cells) : Type 0 where
-  pub done : List ℕ
-  pub left : ℕ
-  pub ahead : Ahead (less done current) (todo .value) (todo .rest) left after
-  pub counts : count + left ≡ k
-  pub stands : Stands start current after

@@ -3,7 +3,8 @@ use Prim.Native.Nat.{ℕ, _-_}
 use lib.ListN.{length}
 use Rattle.cells.specs.Meaning.{Cells, liveCount}
 use Rattle.data.specs.Alike.{Respared}
-use Rattle.data.specs.WorkLists.{Ahead, Walked, Roams}
+use Rattle.data.specs.WorkLists.{Ahead, Roams}
+use Rattle.data.proofs.Walking.{Walked}
 use Rattle.cells.specs.declared.values.Value.{Value}
 use Rattle.data.proofs.sizes.size_of.Given as given
 

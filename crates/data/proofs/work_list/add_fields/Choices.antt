@@ -7,7 +7,8 @@ use Rattle.data.specs.Trees.{Trees, sizes}
 use Rattle.data.specs.Standing.{less}
 use Rattle.data.specs.Taking.{Out}
 use Rattle.data.specs.Alike.{Respared}
-use Rattle.data.specs.WorkLists.{Work, Adding, Roams, CanReach}
+use Rattle.data.specs.WorkLists.{Work, Roams, CanReach}
+use Rattle.data.proofs.Walking.{Adding}
 use Rattle.cells.specs.declared.values.Value.{Value}
 use Rattle.data.proofs.work_list.add_fields.Given as given
 
