@@ -7,6 +7,7 @@ use Rattle.std.specs.declared.option.Option.the-variants.{Some, None}
 use Rattle.cells.specs.declared.kinds.Kind.{Kind}
 use Rattle.cells.specs.declared.kinds.Kind.the-variants.{Int, Bool as Truth, Sym, Unit as Nothing, Function, Cell}
 
+-- the number of a kind
 abbrev pub kindNumber : Kind → ℕ
 kindNumber Int = 0
 kindNumber Truth = 1

@@ -18,6 +18,7 @@ front s = take 65535 s
 abbrev pub meant : {X : Type 0} → (X → Option CellRecord) → List X → Cells
 meant f s = map f (front s)
 
+-- a store over lent slots has at most 65535 cells
 pub meant-small : {X : Type 0} (f : X → Option CellRecord) (s : List X) → length (meant f s) ≤ 65535
 meant-small f s = simp (length-map, length-take) (omega arith)
 

@@ -21,6 +21,7 @@ Cells = List (Option CellRecord)
 abbrev pub at : Cells → ℕ → Option CellRecord
 at cs i = getD cs i None
 
+-- whether cell i is live
 abbrev pub isLive : Cells → ℕ → Bool
 isLive cs i = isSome (at cs i)
 

@@ -12,6 +12,7 @@ use Rattle.cells.specs.declared.kinds.Kind.the-variants.{Int as KInt, Bool as 
 use Rattle.cells.specs.declared.values.Value.{Value}
 use Rattle.cells.specs.declared.values.Value.the-variants.{Int, Bool as Truth, Sym, Unit as Nothing, Function, Cell}
 
+-- the kind of a value
 abbrev pub kindOf : Value → Kind
 kindOf (Int i) = KInt
 kindOf (Truth b) = KBool
@@ -20,7 +21,7 @@ kindOf Nothing = KUnit
 kindOf (Function n) = KFunction
 kindOf (Cell n) = KCell
 
--- an int's number is its 32 bits in two's complement
+-- the number of a value; an int's is its 32 bits in two's complement
 abbrev pub numberOf : Value → ℕ
 numberOf (Int i) = ofZ w32 i
 numberOf (Truth b) = cond b 1 0
@@ -47,6 +48,7 @@ valueOf KUnit n = cond (eqb n 0) (Some Nothing) None
 valueOf KFunction n = Some (Function n)
 valueOf KCell n = Some (Cell n)
 
+-- whether a value is unit
 abbrev pub isUnit : Value → Bool
 isUnit (Int i) = false
 isUnit (Truth b) = false

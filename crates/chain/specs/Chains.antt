@@ -15,15 +15,17 @@ abbrev pub chainCell : ChainSlot → Option CellRecord
 chainCell (Free n) = None
 chainCell (Live r) = Some r
 
+-- whether a slot is free
 abbrev pub isFree : ChainSlot → Bool
 isFree (Free n) = true
 isFree (Live r) = false
 
--- the number that a free slot is linked to
+-- the number that a free slot is linked to; a live one is linked to nothing, and 0 stands in
 abbrev pub next : ChainSlot → ℕ
 next (Free n) = n
 next (Live r) = 0
 
+-- the slot at a number; past the end a free one stands in
 abbrev pub slotAt : List ChainSlot → ℕ → ChainSlot
 slotAt s i = getD s i (Free 0)
 

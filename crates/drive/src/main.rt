@@ -1,9 +1,12 @@
 // Drives every store, and piles of them, through the same long list of calls against a plain list, and prints what it saw.
 mod calls;
+mod clients;
 mod driver;
 mod model;
 mod tally;
 
+use crate::clients::take_two;
+use crate::clients::use_front;
 use crate::driver::drive;
 use crate::model::Model;
 use crate::model::ModelCell;
@@ -107,6 +110,19 @@ fn main(rt: LibcRuntime) -> io::Result<()> {
             out,
             "  past 65535: {rest} cells, {chain_kept} of the chain's slots and {marked_kept} of the marked ones untouched"
         )?;
+    }
+    let mut slots = [LENT; 3];
+    use_front(&mut slots, CellRecord::bare(1));
+    let mut store = ChainStore::new(&mut slots);
+    for _ in 0..2 {
+        match take_two(&mut store, CellRecord::bare(1), CellRecord::bare(2)) {
+            Ok((a, b)) => println!(out, "two of three cells: {a} and {b}")?,
+            Err(refusal) => {
+                let number = refusal.number();
+                let live = store.live_count();
+                println!(out, "two more: refused {number}, {live} live")?;
+            }
+        }
     }
     Ok(())
 }

@@ -32,9 +32,11 @@ abbrev pub FromShelf : List ℕ → Result ℕ StoreRefusal → Type 0
 FromShelf ks (Ok i) = among ks i ≡ true
 FromShelf ks (Err e) = ⊥
 
+-- a shelf has the capacity of the store below
 pub less-length : (ks : List ℕ) (cs : Cells) → length (less ks cs) ≡ length cs
 less-length [] cs = refl
 less-length (k ∷ ks) cs = length-set (less ks cs) k None ∙ less-length ks cs
 
+-- and so at most 65535 cells
 pub less-small : (ks : List ℕ) (cs : Cells) → length cs ≤ 65535 → length (less ks cs) ≤ 65535
 less-small ks cs h = rw (less-length ks cs) h
