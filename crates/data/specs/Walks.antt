@@ -17,8 +17,9 @@ use Rattle.data.specs.Alike.{Respared, Kept}
 use Rattle.data.specs.Reaching.{Reached, Untouched}
 use Rattle.data.specs.Refusals.{OnlyStuck}
 
--- size: on any store only spare numbers change, of cells that can be reached from the value. Where the value stands for a tree, the answer is the tree's size, and
--- the value stands for it as before; all else is as it was, spare numbers included.
+-- size: on any store only spare numbers change, of cells that can be reached from the value. Where the value stands for
+-- a tree, the answer is the tree's size, and the value stands for it as before; all else is as it was, spare numbers
+-- included.
 pub record Sizes (entry : Cells) (v : Value) (r : Result ℕ WalkRefusal) (exit : Cells) : Type 0 where
   pub long : length exit ≡ length entry
   pub live : liveCount exit ≡ liveCount entry
@@ -27,7 +28,8 @@ pub record Sizes (entry : Cells) (v : Value) (r : Result ℕ WalkRefusal) (exit 
   pub far : Untouched entry v exit
   pub counts : (t : Tree) (m₀ : Cells) → Keeps m₀ entry (v ∷ []) (more t none) → (r ≡ Ok (size t)) × Keeps m₀ exit (v ∷ []) (more t none)
 
--- drop: on any store no cell changes that cannot be reached from the value. Where the value stands for a tree, its cells are free, as many as the answer says, and all else is as it was
+-- drop: on any store no cell changes that cannot be reached from the value. Where the value stands for a tree, its cells
+-- are free, as many as the answer says, and all else is as it was.
 pub record Drops (entry : Cells) (v : Value) (r : Result ℕ WalkRefusal) (exit : Cells) : Type 0 where
   pub long : length exit ≡ length entry
   pub stuck : OnlyStuck r
