@@ -20,18 +20,20 @@ use Rattle.cells.specs.Values.{isCell}
 use Rattle.cells.specs.Records.{row}
 use Rattle.cells.specs.Meaning.{Cells, at, liveCount, one, TakenAt, Full}
 use Rattle.cells.proofs.CellLaws.{count-set, full-count}
-use Rattle.cells.proofs.Calls.{at-other, at-put, at-cleared}
+use Rattle.cells.proofs.Calls.{at-other, at-put, at-cleared, taken-live}
 use Rattle.data.specs.declared.refusals.WalkRefusal.{WalkRefusal}
 use Rattle.data.specs.declared.refusals.WalkRefusal.the-variants.{NoFreeCell, Stuck}
 use Rattle.std.specs.Results.{isOk}
 use Rattle.data.specs.Trees.{Tree, Trees, built, none, more, size, sizes}
 use Rattle.data.specs.Standing.{Plain}
 use Rattle.data.specs.Taking.{Out, out-none, out-plain, out-cell}
-use Rattle.data.specs.Alike.{Alike, Respared}
+use Rattle.data.specs.Alike.{Alike, Respared, Kept}
+use Rattle.data.specs.Reaching.{Reached, Untouched}
 use Rattle.data.specs.Walks.{CopySays}
 use Rattle.data.specs.Refusals.{Okay, OnlyStuck}
-use Rattle.data.specs.Copying.{Reads, reads-none, reads-plain, reads-cell, Within, below, owed, Pend, pend-end, pend-on, FieldCopied, was-plain, was-cell, FieldRefused, was-dead, was-full, Turned, Turns}
-use Rattle.data.proofs.Stores.{some-none, within, cleared-or-same, set-back}
+use Rattle.data.specs.Copying.{Reads, reads-none, reads-plain, reads-cell, Within, below, owed, Pend, pend-end, pend-on, FieldCopied, was-plain, was-cell, FieldRefused, was-dead, was-full, Turned, Turns, Apart}
+use Rattle.data.proofs.Stores.{some-none, within, at-past, cleared-or-same, set-back}
+use Rattle.data.proofs.Roaming.{ok-same}
 use Rattle.data.proofs.Outs.{not-plain, plain-size, join, join-join, join-none, sizes-join, was, alike-row, joined, Two, out-nothing}
 use Rattle.data.proofs.Keeping.{cleared-within, keeps-from-out}
 use Rattle.data.proofs.Spares.{respared-live}
@@ -417,6 +419,63 @@ pub refused-same : {entry exit : Cells} {v : Value} → FieldRefused entry v exi
 refused-same (was-dead n v-is gone s) = s
 refused-same (was-full n e v-is f) = f .same
 
+-- on any store
+
+-- what is free now was free in the old store
+free-before : (old cs : Cells) (i : ℕ) → Within old cs → at cs i ≡ None → at old i ≡ None
+free-before old cs i w h = by-cases (at old i) refl
+  where
+    by-cases : (c : Option CellRecord) → at old i ≡ c → c ≡ None
+    by-cases None e = refl
+    by-cases (Some r) e = absurd (some-none (w i r e) h)
+
+pub apart-start : (old : Cells) → length old ≤ 65535 → Apart old old 65535
+apart-start old small = record { within = λ i r h. h; links = λ i r z h. absurd (some-none h z); start = at-past old 65535 small }
+
+-- the cell that waits first leads to a new one
+pub apart-next : {old cs : Cells} {n : ℕ} (r : CellRecord) → at cs n ≡ Some r → Apart old cs n → Apart old cs (r .spare)
+apart-next {n = n} r h a = record { within = a .within; links = a .links; start = a .links n r (a .start) h }
+
+pub apart-field : {old entry exit : Cells} {v w : Value} {head top : ℕ} → FieldCopied entry v head w top exit → Apart old entry head → Apart old exit top
+apart-field {old} {entry} {exit} {top = top} (was-plain p same up e) a = subst (λ z. Apart old z top) (sym e) (subst (λ z. Apart old entry z) (sym up) a)
+apart-field {old} {entry} {exit} {top = top} (was-cell n from new v-is source alike link w-is took) a = record {
+  within = λ i r h. copied-within (was-cell n from new v-is source alike link w-is took) i r (a .within i r h);
+  links = λ i r z h.
+      ⊎-elim
+      (λ s. subst (λ x. at old x ≡ None) (sym (ap (λ (x : CellRecord). x .spare) (same-new i r s h) ∙ link)) (a .start))
+      (λ d. a .links i r z (sym (at-other entry top i (Some new) d) ∙ (sym (ap (λ x. at x i) (took .after)) ∙ h)))
+      (cases-eq i top);
+  start = free-before old entry top (a .within) (took .free);
+}
+  where
+    same-new : (i : ℕ) (r : CellRecord) → i ≡ top → at exit i ≡ Some r → r ≡ new
+    same-new i r s h = let x = subst (λ j. at exit j ≡ Some r) s h in let y = taken-live took in cc
+
+-- the new cell n is written again, with the same spare number
+pub apart-write : {old cs : Cells} {head : ℕ} (exit : Cells) (n : ℕ) (r put : CellRecord) → at cs n ≡ Some r → at old n ≡ None → put .spare ≡ r .spare → exit ≡ set cs n (Some put) → Apart old cs head → Apart old exit head
+apart-write {old} {cs} exit n r put h new spare e a = record {
+  within = λ i q k. ap (λ z. at z i) e ∙ (at-other cs n i (Some put) (λ s. some-none k (subst (λ j. at old j ≡ None) (sym s) new)) ∙ a .within i q k);
+  links = λ i q z k.
+      ⊎-elim
+      (λ s. subst (λ x. at old x ≡ None) (sym (ap (λ (x : CellRecord). x .spare) (same-put i q s k) ∙ spare)) (a .links n r new h))
+      (λ d. a .links i q z (sym (at-other cs n i (Some put) d) ∙ (sym (ap (λ x. at x i) e) ∙ k)))
+      (cases-eq i n);
+  start = a .start;
+}
+  where
+    same-put : (i : ℕ) (q : CellRecord) → i ≡ n → at exit i ≡ Some q → q ≡ put
+    same-put i q s k = let x = subst (λ j. at exit j ≡ Some q) s k in let y = ap (λ z. at z n) e ∙ at-put cs n (Some put) (within cs n r h) in cc
+
+pub apart-head : {old cs : Cells} {a b : ℕ} → _≡_ {A = Result ℕ WalkRefusal} (Ok a) (Ok b) → Apart old cs a → Apart old cs b
+apart-head {old} {cs} e w = let same = ok-same e in subst (λ x. Apart old cs x) same w
+
+-- the records of before, and the cells that cannot be reached, after a count and a copy
+pub copy-kept : {entry mid exit : Cells} → Respared entry mid → Within mid exit → Kept entry exit
+copy-kept same w = record { each = λ i r h. let q = respared-live same i r h in (q .0, w i (q .0) (q .1), q .2) }
+
+pub copy-far : {entry mid : Cells} {v : Value} (exit : Cells) → Untouched entry v mid → Within mid exit → (i : ℕ) (q : CellRecord) → at entry i ≡ Some q → (Reached entry v i → ⊥) → at exit i ≡ Some q
+copy-far exit u w i q h d = w i q (u .each i d ∙ h)
+
 -- a field of the cell n is copied, which does not see n itself
 pub turn-field : (old real real′ rest : Cells) (kids : Trees) (ps : List Value) (us : Trees) (top top′ : ℕ) (left made : List Value) (v w : Value) (live n : ℕ) (r : CellRecord) (all : List Value)
     → FieldCopied real v top w top′ real′ → all ≡ left ++ v ∷ [] → at real n ≡ Some r → Within old real → length real ≤ 65535
@@ -459,7 +518,6 @@ pub copy-says : (entry mid exit m₀ : Cells) (v : Value) (t : Tree) (r : Result
 copy-says entry mid exit m₀ v t (Ok w) o b same enough = record {
   room = enough;
   both = keeps-from-out m₀ exit (w ∷ v ∷ []) (more t (more t none)) (joined o b);
-  kept = record { each = λ i r h. let q = respared-live same i r h in (q .0, was i (q .0) (q .1) o, q .2) };
 }
 copy-says entry mid exit m₀ v t (Err e) o b same enough = absurd o
 

@@ -3,5 +3,6 @@ pub mod Outs
 pub mod Keeping
 pub mod Spares
 pub mod Walking
+pub mod Roaming
 pub mod Copying
 pub mod Moves

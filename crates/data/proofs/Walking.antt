@@ -27,9 +27,24 @@ use Rattle.data.specs.Standing.{Plain, plain-unit, less}
 use Rattle.data.specs.Taking.{Out, out-none, out-plain, out-cell}
 use Rattle.data.specs.Alike.{Alike}
 use Rattle.data.specs.Refusals.{Okay}
-use Rattle.data.specs.WorkLists.{Work, work-end, work-on, Ahead, isOpen, Found, by-value, by-list, Lost, value-lost, list-lost, Pushed, Pushes, Added, Adds, Adding, Listed, AddsAll, Walked, Stands}
+use Rattle.data.specs.WorkLists.{Work, work-end, work-on, Ahead, isOpen, Found, by-value, by-list, Lost, value-lost, list-lost, Pushed, Pushes, Added, Adds, Listed, AddsAll, Stands}
 use Rattle.data.proofs.Stores.{some-none, within, cleared-or-same, less-live, less-set}
 use Rattle.data.proofs.Outs.{not-plain, plain-size, join, sizes-join, stays-free, was, frame, parts, tally, out-tally, parts-at, joined, out-nothing, alike-row, respare}
+
+-- a row of values being put ahead, the last first: so far down to vs, total cells in all
+pub record Adding (done : List ℕ) (start current : Cells) (vs : List Value) (todo : Todo) (total : ℕ) (after : Cells) : Type 0 where
+  pub trees : Trees
+  pub left : ℕ
+  pub added : Added done start current vs trees (todo .value) (todo .rest) left after
+  pub counts : sizes trees + left ≡ total
+
+-- a walk that has left some of the k cells behind
+pub record Walked (start current : Cells) (todo : Todo) (count k : ℕ) (after : Cells) : Type 0 where
+  pub done : List ℕ
+  pub left : ℕ
+  pub ahead : Ahead (less done current) (todo .value) (todo .rest) left after
+  pub counts : count + left ≡ k
+  pub stands : Stands start current after
 
 pub okay-map : {X : Type 0} (r : Result X WalkRefusal) (P Q : X → Type 0) → ((x : X) → P x → Q x) → Okay r P → Okay r Q
 okay-map (Ok x) P Q m h = m x h

@@ -22,6 +22,7 @@ use Rattle.data.specs.Trees.{Tree, Trees, int, bool, symbol, unit, function, b
 use Rattle.data.specs.Standing.{Plain, Keeps}
 use Rattle.data.specs.Taking.{Out}
 use Rattle.data.specs.Alike.{Alike, Respared}
+use Rattle.data.specs.Reaching.{Untouched}
 use Rattle.data.specs.Refusals.{Okay, OnlyStuck}
 
 -- the values stand for the trees; a cell may be read twice
@@ -53,6 +54,13 @@ pub data Pend (old : Cells) : Cells → ℕ → List Value → Trees → Cells �
   pend-on : {cs rest : Cells} {head : ℕ} {ps : List Value} {fields ts : Trees} (r : CellRecord) → head < 65535 → at cs head ≡ Some r
       → Reads old (row r) fields → Pend old (set cs head None) (r .spare) ps ts rest → Pend old cs head (Cell head ∷ ps) (more (built (r .constructor) fields) ts) rest
 
+-- On any store: what was live in the old store is as it was, and new cells lead to new cells only. (The number that ends
+-- a list is free in every store.)
+pub record Apart (old cs : Cells) (head : ℕ) : Type 0 where
+  pub within : Within old cs
+  pub links : (i : ℕ) (r : CellRecord) → at old i ≡ None → at cs i ≡ Some r → at old (r .spare) ≡ None
+  pub start : at old head ≡ None
+
 -- one value copied: a plain one is itself; of a cell the record goes into a new cell, which waits first
 pub data FieldCopied (entry : Cells) (v : Value) (head : ℕ) (w : Value) (top : ℕ) (exit : Cells) : Type 0 where
   was-plain : isCell v ≡ false → w ≡ v → top ≡ head → exit ≡ entry → FieldCopied entry v head w top exit
@@ -83,6 +91,8 @@ pub record Turned (old : Cells) (n : ℕ) (ps : List Value) (ts : Trees) (rest :
 pub record Turns (entry : Cells) (n : ℕ) (r : Result ℕ WalkRefusal) (exit : Cells) : Type 0 where
   pub long : length exit ≡ length entry
   pub stuck : OnlyStuck r
+  pub keeps : (old : Cells) → Apart old entry n → Within old exit
+  pub apart : (old : Cells) (head : ℕ) → r ≡ Ok head → Apart old entry n → Apart old exit head
   pub turns : (old rest : Cells) (ps : List Value) (ts : Trees) → Pend old entry n (Cell n ∷ ps) ts rest → Within old entry → at old n ≡ None → liveCount entry + owed ts ≤ length entry
       → Okay r (λ top. Turned old n ps ts rest entry exit top)
 
@@ -90,6 +100,7 @@ pub record Turns (entry : Cells) (n : ℕ) (r : Result ℕ WalkRefusal) (exit : 
 pub record CopiesCells (entry : Cells) (v : Value) (r : Result Value WalkRefusal) (exit : Cells) : Type 0 where
   pub long : length exit ≡ length entry
   pub stuck : OnlyStuck r
+  pub keeps : Within entry exit
   pub copies : (ts : Trees) → Reads entry (v ∷ []) ts → sizes ts ≤ liveCount entry → liveCount entry + sizes ts ≤ length entry → Okay r (λ w. Out exit (w ∷ []) ts entry)
 
 -- whether enough cells are free; only spare numbers change
@@ -98,4 +109,5 @@ pub record Rooms (entry : Cells) (v : Value) (r : Result Bool WalkRefusal) (exit
   pub live : liveCount exit ≡ liveCount entry
   pub same : Respared entry exit
   pub stuck : OnlyStuck r
+  pub far : Untouched entry v exit
   pub tells : (t : Tree) (m₀ : Cells) → Keeps m₀ entry (v ∷ []) (more t none) → (r ≡ Ok (leb (liveCount entry + size t) (length entry))) × Keeps m₀ exit (v ∷ []) (more t none)

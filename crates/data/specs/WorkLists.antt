@@ -2,6 +2,7 @@
 use mathlib.Core.Path.{_≡_}
 use mathlib.Core.Bool.{Bool, true, false, not, _||_}
 use mathlib.Core.List.{List, [], _∷_}
+use mathlib.Core.Logic.{_⊎_}
 use Prim.Native.Nat.{ℕ, _+_, _<_}
 use lib.Dec.{eqb}
 use lib.ListN.{length, set}
@@ -9,7 +10,7 @@ use Rattle.std.specs.declared.option.Option.the-variants.{Some, None}
 use Rattle.std.specs.declared.result.Result.{Result}
 use Rattle.std.specs.declared.result.Result.the-variants.{Ok, Err}
 use Rattle.cells.specs.declared.values.Value.{Value}
-use Rattle.cells.specs.declared.values.Value.the-variants.{Cell}
+use Rattle.cells.specs.declared.values.Value.the-variants.{Unit as Nothing, Cell}
 use Rattle.cells.specs.declared.records.CellRecord.{CellRecord}
 use Rattle.cells.specs.Values.{isCell}
 use Rattle.cells.specs.Records.{row}
@@ -19,7 +20,8 @@ use Rattle.data.specs.declared.refusals.WalkRefusal.the-variants.{Stuck}
 use Rattle.data.specs.declared.todo.Todo.{Todo}
 use Rattle.data.specs.declared.visit.Visit.{Visit}
 use Rattle.data.specs.Trees.{Trees, sizes}
-use Rattle.data.specs.Standing.{less}
+use Rattle.data.specs.Standing.{less, Among}
+use Rattle.data.specs.Reaching.{HasCell, Reached, Untouched}
 use Rattle.data.specs.Taking.{Out}
 use Rattle.data.specs.Alike.{Respared}
 use Rattle.data.specs.Refusals.{OnlyStuck, Okay}
@@ -62,6 +64,27 @@ abbrev pub Visits : Cells → Todo → Result Visit WalkRefusal → Type 0
 Visits cs todo (Ok visit) = Found cs todo visit
 Visits cs todo (Err e) = (e ≡ Stuck) × Lost cs todo
 
+-- On any store, where the value may stand for no tree:
+
+-- a number that ends the list, or is on it
+abbrev pub On : List ℕ → ℕ → Type 0
+On list head = (head ≡ 65535) ⊎ Among head list
+
+-- a walk that began in the store m at root, with the value v at hand and the work list from head: it can reach what is
+-- ahead, it has linked the cells of list, and it has changed no cell that it cannot reach, and no fields
+pub record Roams (m : Cells) (root : Value) (cs : Cells) (v : Value) (head : ℕ) : Type 0 where
+  pub far : (i : ℕ) → (Reached m root i → ⊥) → at cs i ≡ at m i
+  pub kin : (i : ℕ) (r : CellRecord) → at cs i ≡ Some r → (q : CellRecord) × (at m i ≡ Some q) × (row r ≡ row q)
+  pub list : List ℕ
+  pub listed : (i : ℕ) → Among i list → Reached m root i
+  pub links : (i : ℕ) (r : CellRecord) → Among i list → at cs i ≡ Some r → On list (r .spare)
+  pub start : On list head
+  pub hand : (n : ℕ) → v ≡ Cell n → Reached m root n
+
+-- each of the values can be reached
+pub record CanReach (m : Cells) (root : Value) (vs : List Value) : Type 0 where
+  pub each : (n : ℕ) → HasCell n vs → Reached m root n
+
 -- what is held beside the cells that a walk has left behind stays what it is
 abbrev pub Stands : Cells → Cells → Cells → Type 0
 Stands entry exit after = (ws : List Value) (ts : Trees) → Out entry ws ts after → Out exit ws ts after
@@ -79,6 +102,8 @@ pub record Pushes (entry : Cells) (v : Value) (head : ℕ) (r : Result ℕ WalkR
   pub live : liveCount exit ≡ liveCount entry
   pub same : Respared entry exit
   pub stuck : OnlyStuck r
+  pub far : (m : Cells) (root : Value) → Roams m root entry v head → Untouched m root exit
+  pub roams : (m : Cells) (root : Value) (h : ℕ) → r ≡ Ok h → Roams m root entry v head → Roams m root exit v h
   pub puts : (done : List ℕ) (vs : List Value) (ts us : Trees) (m mid after : Cells) (k : ℕ) → Out (less done entry) vs ts m → Out m (v ∷ []) us mid → Work mid head k after
       → Okay r (λ h. Pushed done entry exit vs ts h (sizes us + k) after)
 
@@ -95,15 +120,10 @@ pub record Adds (entry : Cells) (field : Value) (todo : Todo) (r : Result Todo W
   pub live : liveCount exit ≡ liveCount entry
   pub same : Respared entry exit
   pub stuck : OnlyStuck r
+  pub far : (m : Cells) (root : Value) → Roams m root entry (todo .value) (todo .rest) → Untouched m root exit
+  pub roams : (m : Cells) (root : Value) (new : Todo) → r ≡ Ok new → Roams m root entry (todo .value) (todo .rest) → CanReach m root (field ∷ []) → Roams m root exit (new .value) (new .rest)
   pub puts : (done : List ℕ) (vs : List Value) (ts us : Trees) (m mid after : Cells) (k : ℕ) → Out (less done entry) vs ts m → Out m (field ∷ []) us mid → Ahead mid (todo .value) (todo .rest) k after
       → Okay r (λ new. Added done entry exit vs ts (new .value) (new .rest) (sizes us + k) after)
-
--- a row of values being put ahead, the last first: so far down to vs, total cells in all
-pub record Adding (done : List ℕ) (start current : Cells) (vs : List Value) (todo : Todo) (total : ℕ) (after : Cells) : Type 0 where
-  pub trees : Trees
-  pub left : ℕ
-  pub added : Added done start current vs trees (todo .value) (todo .rest) left after
-  pub counts : sizes trees + left ≡ total
 
 -- all of the row is ahead
 pub record Listed (done : List ℕ) (entry exit : Cells) (todo : Todo) (k : ℕ) (after : Cells) : Type 0 where
@@ -116,13 +136,7 @@ pub record AddsAll (entry : Cells) (vs : List Value) (head : ℕ) (r : Result To
   pub live : liveCount exit ≡ liveCount entry
   pub same : Respared entry exit
   pub stuck : OnlyStuck r
+  pub far : (m : Cells) (root : Value) → Roams m root entry Nothing head → CanReach m root vs → Untouched m root exit
+  pub roams : (m : Cells) (root : Value) (new : Todo) → r ≡ Ok new → Roams m root entry Nothing head → CanReach m root vs → Roams m root exit (new .value) (new .rest)
   pub puts : (done : List ℕ) (ts : Trees) (mid after : Cells) (k : ℕ) → Out (less done entry) vs ts mid → Work mid head k after
       → Okay r (λ todo. Listed done entry exit todo (sizes ts + k) after)
-
--- a walk that has left some of the k cells behind
-pub record Walked (start current : Cells) (todo : Todo) (count k : ℕ) (after : Cells) : Type 0 where
-  pub done : List ℕ
-  pub left : ℕ
-  pub ahead : Ahead (less done current) (todo .value) (todo .rest) left after
-  pub counts : count + left ≡ k
-  pub stands : Stands start current after

@@ -1,8 +1,10 @@
 use borrow.Author.Needs.{needs}
-use mathlib.Core.Path.{_≡_, refl, ap, _∙_}
+use mathlib.Core.Path.{_≡_, refl, sym, ap, subst, _∙_}
 use native.Mathlib.Omega.{arith}
 use lib.ListN.{length}
-use Rattle.data.proofs.Copying.{copying-root, root-refused, copying-open, copying-turn, copied-whole, copied-long, refused-same}
+use Rattle.data.proofs.Copying.{copying-root, root-refused, copying-open, copying-turn, copied-whole, copied-long, refused-same, apart-start, apart-field}
+use Rattle.std.specs.declared.option.Option.the-variants.{Some}
+use Rattle.cells.specs.Meaning.{at}
 use Rattle.data.proofs.copies.copy_cells.Needs as need
 
 pub returns-in-Break-first : need.returns-in-Break-first
@@ -11,11 +13,12 @@ returns-in-Break-first g c =
     record {
       long = ap length (refused-same does);
       stuck = search needs;
+      keeps = λ i q h. subst (λ z. at z i ≡ Some q) (sym (refused-same does)) h;
       copies = λ ts reads most enough. absurd (root-refused _ _ (c .args .value) ts does reads enough);
     }
 
 pub walk-holds : need.walk-holds
-walk-holds g c = (refl, λ old w ts long enough t. t)
+walk-holds g c = (refl, λ old a. a, λ old w ts long enough t. t)
 
 pub returns-then-count-limit : need.returns-then-count-limit
 returns-then-count-limit g c =
@@ -23,8 +26,9 @@ returns-then-count-limit g c =
     record {
       long = c .walk .inv .0 ∙ copied-long does;
       stuck = refl;
+      keeps = c .walk .inv .1 _ (apart-field does (apart-start _ (g .S·CellStore .small (c .args .store .now)))) .within;
       copies = λ ts reads most enough.
-          let t = c .walk .inv .1 _ _ ts (copied-long does) enough (copying-root _ _ (c .args .value) _ _ ts does reads (g .S·CellStore .small (c .args .store .now))) in
+          let t = c .walk .inv .2 _ _ ts (copied-long does) enough (copying-root _ _ (c .args .value) _ _ ts does reads (g .S·CellStore .small (c .args .store .now))) in
           absurd (omega (arith, most, copying-open _ _ _ _ ts _ (c .walk-test .taken) t, c .live-count-limit .ensures, c .if-count-limit .taken));
     }
 
@@ -35,8 +39,9 @@ returns-in-Break-head g c =
     record {
       long = turned .long ∙ (c .walk .inv .0 ∙ copied-long does);
       stuck = search needs;
+      keeps = turned .keeps _ (c .walk .inv .1 _ (apart-field does (apart-start _ (g .S·CellStore .small (c .args .store .now)))));
       copies = λ ts reads most enough.
-          let t = c .walk .inv .1 _ _ ts (copied-long does) enough (copying-root _ _ (c .args .value) _ _ ts does reads (g .S·CellStore .small (c .args .store .now))) in
+          let t = c .walk .inv .2 _ _ ts (copied-long does) enough (copying-root _ _ (c .args .value) _ _ ts does reads (g .S·CellStore .small (c .args .store .now))) in
           absurd (copying-turn _ _ _ _ _ ts _ _ (c .walk-test .taken) (c .walk .inv .0 ∙ copied-long does) enough turned t);
     }
 
@@ -44,8 +49,9 @@ pub walk-again : need.walk-again
 walk-again g c =
     let turned = c .in-Continue-head .ensures tt in (
       turned .long ∙ c .walk .inv .0,
+      λ old a. turned .apart old _ refl (c .walk .inv .1 old a),
       λ old w ts long enough t₀.
-          let t = c .walk .inv .1 old w ts long enough t₀ in
+          let t = c .walk .inv .2 old w ts long enough t₀ in
           copying-turn old _ _ _ w ts _ _ (c .walk-test .taken) (c .walk .inv .0 ∙ long) enough turned t,
     )
 
@@ -55,7 +61,8 @@ returns g c =
     record {
       long = c .walk .inv .0 ∙ copied-long does;
       stuck = tt;
+      keeps = c .walk .inv .1 _ (apart-field does (apart-start _ (g .S·CellStore .small (c .args .store .now)))) .within;
       copies = λ ts reads most enough.
-          let t = c .walk .inv .1 _ _ ts (copied-long does) enough (copying-root _ _ (c .args .value) _ _ ts does reads (g .S·CellStore .small (c .args .store .now))) in
+          let t = c .walk .inv .2 _ _ ts (copied-long does) enough (copying-root _ _ (c .args .value) _ _ ts does reads (g .S·CellStore .small (c .args .store .now))) in
           copied-whole _ _ _ (c .in-Continue-first .first .value) _ ts _ (cc) (c .walk-test .left) t;
     }

@@ -10,7 +10,7 @@ use Rattle.cells.specs.Meaning.{liveCount}
 use Rattle.data.specs.Trees.{size, sizes, more, none}
 use Rattle.data.proofs.Outs.{out-count}
 use Rattle.data.proofs.Keeping.{out-from-keeps}
-use Rattle.data.proofs.Copying.{copy-says, out-reads, only-stuck}
+use Rattle.data.proofs.Copying.{copy-says, copy-kept, copy-far, out-reads, only-stuck}
 use Rattle.data.proofs.copies.copy_value.Needs as need
 
 pub returns-in-Break-room : need.returns-in-Break-room
@@ -19,6 +19,8 @@ returns-in-Break-room g c =
     record {
       long = sized .long;
       refused = λ e. sized .same;
+      kept = copy-kept (sized .same) (λ i r h. h);
+      far = copy-far _ (sized .far) (λ i r h. h);
       copies = λ t m₀ k. absurd (false≢true (ap isOk (sized .tells t m₀ k .0)));
     }
 
@@ -29,6 +31,8 @@ returns-then-not-room g c =
     record {
       long = sized .long;
       refused = λ e. sized .same;
+      kept = copy-kept (sized .same) (λ i r h. h);
+      far = copy-far _ (sized .far) (λ i r h. h);
       copies = λ t m₀ k.
           let z = sized .tells t m₀ k in
           let test : leb (liveCount entry + size t) (length entry) ≡ c .in-Continue-room .room = let y = z .0 in cc in
@@ -44,6 +48,8 @@ returns g c =
     record {
       long = does .long ∙ sized .long;
       refused = λ e. absurd (only-stuck _ (does .stuck) e);
+      kept = copy-kept (sized .same) (does .keeps);
+      far = copy-far _ (sized .far) (does .keeps);
       copies = λ t m₀ k.
           let z = sized .tells t m₀ k in
           let test : leb (liveCount entry + size t) (length entry) ≡ c .in-Continue-room .room = let y = z .0 in cc in

@@ -31,6 +31,7 @@ returns-then-free-live g c =
       live = refl;
       same = respared-none _;
       stuck = tt;
+      far = record { each = λ i d. refl };
       tells = λ t m₀ k.
           let enough : liveCount entry + size t ≤ length entry = omega (arith, out-count (out-from-keeps m₀ entry _ _ k), c .live-count-live .ensures, c .capacity .ensures, c .if-free-live .taken) in
           (ap Ok (sym (le-leb _ _ enough)), k);
@@ -44,6 +45,7 @@ returns-in-Break-count g c =
       live = sized .live;
       same = sized .same;
       stuck = search needs;
+      far = sized .far;
       tells = λ t m₀ k. absurd (false≢true (ap isOk (sized .counts t m₀ k .0)));
     }
 
@@ -56,6 +58,7 @@ returns g c =
       live = sized .live;
       same = sized .same;
       stuck = tt;
+      far = sized .far;
       tells = λ t m₀ k.
           let z = sized .counts t m₀ k in
           let count-is : c .in-Continue-count .count ≡ size t = let y = z .0 in cc in

@@ -12,6 +12,7 @@ use Rattle.cells.proofs.Calls.{changed-capacity, given-count}
 use Rattle.data.specs.Trees.{size}
 use Rattle.data.specs.WorkLists.{isOpen}
 use Rattle.data.proofs.Keeping.{out-from-keeps}
+use Rattle.data.proofs.Roaming.{roams-start, roams-untouched, roams-give, roams-found}
 use Rattle.data.proofs.Walking.{walk-start, never-lost, walk-turn, walk-done}
 use Rattle.data.proofs.drops.drop_value.Needs as need
 
@@ -19,8 +20,9 @@ pub returns-in-Break-visit : need.returns-in-Break-visit
 returns-in-Break-visit g c = record {
   long = c .walk .inv .0;
   stuck = search needs;
+  far = roams-untouched (c .walk .inv .2 _ _ (roams-start _ (c .args .value)));
   frees = λ t m₀ k.
-      let w = c .walk .inv .2 (size t) m₀ (walk-start _ _ (c .args .value) t m₀ refl refl (out-from-keeps m₀ _ _ _ k)) in
+      let w = c .walk .inv .3 (size t) m₀ (walk-start _ _ (c .args .value) t m₀ refl refl (out-from-keeps m₀ _ _ _ k)) in
       let go : isOpen (c .walk .todo) ≡ true = sym (c .is-open .ensures) ∙ c .walk-test .taken in
       absurd (never-lost _ [] (c .walk .todo) (w .0) m₀ go (c .in-Break-visit .ensures tt .1) (w .2));
 }
@@ -33,8 +35,11 @@ returns-in-Break-todo g c =
     record {
       long = does .long ∙ (changed-capacity gave ∙ c .walk .inv .0);
       stuck = search needs;
+      far =
+          let n = roams-found (c .walk .todo) _ (g .S·CellStore .small (c .walk .store)) (c .in-Continue-visit .ensures tt) (c .walk .inv .2 _ _ (roams-start _ (c .args .value))) in
+          does .far _ _ (roams-give _ _ (n .here) freed (n .after)) (n .fields);
       frees = λ t m₀ k.
-          let w = c .walk .inv .2 (size t) m₀ (walk-start _ _ (c .args .value) t m₀ refl refl (out-from-keeps m₀ _ _ _ k)) in
+          let w = c .walk .inv .3 (size t) m₀ (walk-start _ _ (c .args .value) t m₀ refl refl (out-from-keeps m₀ _ _ _ k)) in
           let go : isOpen (c .walk .todo) ≡ true = sym (c .is-open .ensures) ∙ c .walk-test .taken in
           absurd (walk-turn _ _ _ [] [] (c .walk .todo) _ (w .0) m₀ _ go (c .in-Continue-visit .ensures tt) freed does (w .2));
     }
@@ -55,8 +60,11 @@ walk-again g c =
     let go : isOpen (c .walk .todo) ≡ true = sym (c .is-open .ensures) ∙ c .walk-test .taken in (
       does .long ∙ (changed-capacity gave ∙ c .walk .inv .0),
       omega (arith, c .walk .inv .1, does .live, given-count gave),
+      λ m root w.
+          let n = roams-found (c .walk .todo) _ (g .S·CellStore .small (c .walk .store)) (c .in-Continue-visit .ensures tt) (c .walk .inv .2 m root w) in
+          does .roams m root _ refl (roams-give _ _ (n .here) freed (n .after)) (n .fields),
       λ k after a.
-          let w = c .walk .inv .2 k after a in
+          let w = c .walk .inv .3 k after a in
           let t = walk-turn _ _ _ [] [] (c .walk .todo) _ (w .0) after _ go (c .in-Continue-visit .ensures tt) freed does (w .2) in
           (t .0, omega (arith, t .1, w .1), t .2 .ahead),
     )
@@ -65,8 +73,9 @@ pub returns : need.returns
 returns g c = record {
   long = c .walk .inv .0;
   stuck = tt;
+  far = roams-untouched (c .walk .inv .2 _ _ (roams-start _ (c .args .value)));
   frees = λ t m₀ k.
-      let w = c .walk .inv .2 (size t) m₀ (walk-start _ _ (c .args .value) t m₀ refl refl (out-from-keeps m₀ _ _ _ k)) in
+      let w = c .walk .inv .3 (size t) m₀ (walk-start _ _ (c .args .value) t m₀ refl refl (out-from-keeps m₀ _ _ _ k)) in
       let shut : isOpen (c .walk .todo) ≡ false = sym (c .is-open .ensures) ∙ c .walk-test .left in
       let d = walk-done _ (c .walk .todo) (w .0) m₀ shut (w .2) in
       (ap Ok (omega (arith, w .1, d .1)), d .0);
