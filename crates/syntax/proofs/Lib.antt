@@ -11,3 +11,5 @@ pub mod GrammarExprs
 pub mod GrammarDefinitions
 pub mod GrammarOnly
 pub mod GrammarLaws
+pub mod PartLaws
+pub mod PatternLaws

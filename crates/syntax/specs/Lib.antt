@@ -13,3 +13,5 @@ pub mod Encoding
 pub mod Atoms
 pub mod Progress
 pub mod Rows
+pub mod Parts
+pub mod Patterns

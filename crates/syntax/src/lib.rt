@@ -5,6 +5,7 @@ mod form;
 pub mod laws;
 mod names;
 mod node;
+mod patterns;
 mod sight;
 mod spot;
 mod survey;
