@@ -22,7 +22,7 @@ pub(crate) fn look_at(text: &[u8], place: usize) -> Look
     let mut reader = Reader::at(text, place);
     match reader.next() {
         Ok(Some(token)) => {
-            let after = reader.place();
+            let after = token.place + token.bytes.len();
             match token.kind {
                 TokenKind::Open(_) => Look::Open(token.place, after),
                 TokenKind::Close(_) => Look::Close(token.place, after),

@@ -31,13 +31,6 @@ impl<'t> Reader<'t> {
         }
     }
 
-    // Where the reader stands: behind the token that it read last.
-    pub fn place(&self) -> usize
-        ensures { λ r. ⌜ r ≡ now (self .entry) .place ⌝ }
-    {
-        self.place
-    }
-
     // The next token, or none at the end. A refusal leaves the reader where it was.
     pub fn next(&mut self) -> Result<Option<Token<'t>>, Refused>
         ensures reads { λ r. ⌜ Reads (now (now (self .entry) .text)) (now (self .entry) .place) r (now (self .exit) .place) ⌝ }
