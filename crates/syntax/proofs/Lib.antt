@@ -13,3 +13,4 @@ pub mod GrammarOnly
 pub mod GrammarLaws
 pub mod PartLaws
 pub mod PatternLaws
+pub mod ReaderLaws

@@ -62,3 +62,7 @@ abbrev pub Named : List ℕ → Lexed → Outcome Ident → Result NameAt Refuse
 Named text rest (refused x) r = r ≡ Err x
 Named text rest (made i n) (Ok name) = (name .place ≡ i .place) × (name .after ≡ i .place + length (i .bytes)) × (lexedFrom text (name .after) ≡ rest)
 Named text rest (made i n) (Err x) = ⊥
+
+-- the place behind the token that stands next
+abbrev pub Behind : List ℕ → ℕ → ℕ → Type 0
+Behind text place r = (place ≤ r) × (r ≤ length text) × ((t : Lexeme) (rest : Lexed) → lexedFrom text place ≡ also t rest → lexedFrom text r ≡ rest)

@@ -2,7 +2,7 @@
 ghost use mathlib.Core.Path.{_≡_};
 ghost use Prim.Native.Nat.{_≤_};
 ghost use lib.ListN.{length};
-ghost use Rattle.syntax.specs.Looks.{Sees, Closes};
+ghost use Rattle.syntax.specs.Looks.{Sees, Closes, Behind};
 use text::Reader;
 use text::TokenKind;
 
@@ -43,5 +43,18 @@ pub(crate) fn closing_at(text: &[u8], place: usize) -> Option<usize>
         Look::Open(_, _) => None,
         Look::Atom(_, _, _) => None,
         Look::End => None,
+    }
+}
+
+// The place behind the token that stands next, or the place itself where none does.
+pub fn behind(text: &[u8], place: usize) -> usize
+    requires { ⌜ place ≤ length (now text) ⌝ }
+    ensures { λ r. ⌜ Behind (now (text .entry)) place r ⌝ }
+{
+    match look_at(text, place) {
+        Look::Open(_, after) => after,
+        Look::Close(_, after) => after,
+        Look::Atom(_, _, after) => after,
+        Look::End => place,
     }
 }
