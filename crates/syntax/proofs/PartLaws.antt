@@ -14,14 +14,13 @@ use Rattle.text.specs.Tokens.{Lexed, lexedFrom}
 use Rattle.text.specs.declared.refusal.Refused.{Refused}
 use Rattle.text.specs.declared.refusal.Refusal.the-variants as refusal
 use Rattle.syntax.specs.Encoding.{node, encode, encodes, encode-bindings, encode-branches, pattern-place}
-use Rattle.syntax.specs.Forms.{if-form, begin-form, let-form, case-form, dup-form, apply-form}
 use Rattle.syntax.specs.Limits.{exprNodes, exprsNodes, bindingsNodes, branchesNodes}
 use Rattle.syntax.specs.Parts.{under, encode-binding, encode-branch}
 use Rattle.syntax.specs.Progress.{puts, Told}
-use Rattle.syntax.specs.Reading.{Tally, Outcome, refused, made, andThen, countNode, Binding, Branch, readName, readExprs, readBinding, readBindings, readBindingList, readBranch, readBranches, readForm}
+use Rattle.syntax.specs.Reading.{Tally, Outcome, refused, made, andThen, countNode, Binding, Branch, readExprs, readBinding, readBindings, readBranch, readBranches}
 use Rattle.syntax.specs.Rows.{readEach, encodeEach}
-use Rattle.syntax.specs.Sexps.{Sexp, atom, list, Sexps, nil, cons}
-use Rattle.syntax.specs.Trees.{Ident, Expr, integer, symbol, boolean, unit, name, if-expr, begin-expr, let-expr, case-expr, dup-expr, apply-expr, Exprs, no-exprs, and-expr, Bindings, no-bindings, and-binding, Branches, last-branch, and-branch}
+use Rattle.syntax.specs.Sexps.{Sexp, Sexps, nil, cons}
+use Rattle.syntax.specs.Trees.{Expr, integer, symbol, boolean, unit, name, if-expr, begin-expr, let-expr, case-expr, dup-expr, apply-expr, Exprs, no-exprs, and-expr, Bindings, no-bindings, and-binding, Branches, last-branch, and-branch}
 use Rattle.syntax.specs.declared.node.Node.{Node}
 use Rattle.syntax.specs.declared.node.NodeForm.{NodeForm}
 use Rattle.syntax.specs.declared.node.NodeForm.the-variants as form
@@ -70,28 +69,28 @@ pub data Alike {A B : Type 0} (Related : A → B → Type 0) : Outcome A → Out
   both-made : {a : A} {b : B} {n : Tally} → Related a b → Alike Related (made a n) (made b n)
 
 pub alike-then : {A B C D : Type 0} {R : A → B → Type 0} {S : C → D → Type 0} {o : Outcome A} {p : Outcome B} {f : A → Tally → Outcome C} {g : B → Tally → Outcome D}
-  → Alike R o p → ((a : A) (b : B) (n : Tally) → R a b → Alike S (f a n) (g b n)) → Alike S (andThen o f) (andThen p g)
+    → Alike R o p → ((a : A) (b : B) (n : Tally) → R a b → Alike S (f a n) (g b n)) → Alike S (andThen o f) (andThen p g)
 alike-then both-refused h = both-refused
 alike-then (both-made r) h = h _ _ _ r
 
 pub alike-same : {A C D : Type 0} {S : C → D → Type 0} (o : Outcome A) {f : A → Tally → Outcome C} {g : A → Tally → Outcome D}
-  → ((a : A) (n : Tally) → Alike S (f a n) (g a n)) → Alike S (andThen o f) (andThen o g)
+    → ((a : A) (n : Tally) → Alike S (f a n) (g a n)) → Alike S (andThen o f) (andThen o g)
 alike-same (refused x) h = both-refused
 alike-same (made a n) h = h a n
 
 pub alike-count : {A B : Type 0} {R : A → B → Type 0} (entries p : ℕ) (n : Tally) (f : Tally → Outcome A) (g : Tally → Outcome B)
-  → ((n : Tally) → Alike R (f n) (g n)) → Alike R (countNode entries p n f) (countNode entries p n g)
+    → ((n : Tally) → Alike R (f n) (g n)) → Alike R (countNode entries p n f) (countNode entries p n g)
 alike-count {A} {B} {R} entries p n f g h = go (ltb (n .nodes) (min entries 4096)) (ltb entries 4096) _
   where
     go : (b d : Bool) (m : Tally)
-      → Alike R (cond b (f m) (cond d (refused (refusedAt refusal.NodeList p)) (refused (refusedAt refusal.Limit p)))) (cond b (g m) (cond d (refused (refusedAt refusal.NodeList p)) (refused (refusedAt refusal.Limit p))))
+        → Alike R (cond b (f m) (cond d (refused (refusedAt refusal.NodeList p)) (refused (refusedAt refusal.Limit p)))) (cond b (g m) (cond d (refused (refusedAt refusal.NodeList p)) (refused (refusedAt refusal.Limit p))))
     go true d m = h m
     go false true m = both-refused
     go false false m = both-refused
 
 -- what is told of one outcome is told of its like
 pub told-alike : {A B : Type 0} {f : A → List Node} {g : B → List Node} {o : Outcome A} {p : Outcome B} (text : List ℕ) (rest : Lexed) (spot : Spot) (ns : List Node) (r : Result Spot Refused) (after : List Node)
-  → Alike (λ a b. f a ≡ g b) o p → Told text rest spot ns f o r after → Told text rest spot ns g p r after
+    → Alike (λ a b. f a ≡ g b) o p → Told text rest spot ns f o r after → Told text rest spot ns g p r after
 told-alike text rest spot ns r after both-refused t = t
 told-alike text rest spot ns (Ok end) after (both-made e) t = (t .0, t .1 ∙ ap (λ (x : List Node). spot .used + length x) e, t .2, t .3 ∙ ap (puts ns (spot .used)) e)
 told-alike text rest spot ns (Err x) after (both-made e) t = absurd t
@@ -101,9 +100,9 @@ abbrev pub both : {A B : Type 0} → (ℕ → A → List Node) → (ℕ → B �
 both f g i x = f i (x .0) ++ g (i + length (f i (x .0))) (x .1)
 
 pub told-then : {A B : Type 0} (text : List ℕ) (mid rest : Lexed) (from at : Spot) (ns now after : List Node) (f : ℕ → A → List Node) (g : ℕ → B → List Node) (o : Outcome A) (next : Tally → Outcome B) (r : Result Spot Refused)
-  → Told text mid from ns (f (from .used)) o (Ok at) now
-  → ((m : Tally) → m .nodes ≡ at .used → lexedFrom text (at .place) ≡ mid → Told text rest at now (g (at .used)) (next m) r after)
-  → Told text rest from ns (both f g (from .used)) (andThen o (λ a m. andThen (next m) (λ b m. made (a, b) m))) r after
+    → Told text mid from ns (f (from .used)) o (Ok at) now
+    → ((m : Tally) → m .nodes ≡ at .used → lexedFrom text (at .place) ≡ mid → Told text rest at now (g (at .used)) (next m) r after)
+    → Told text rest from ns (both f g (from .used)) (andThen o (λ a m. andThen (next m) (λ b m. made (a, b) m))) r after
 told-then text mid rest from at ns now after f g (refused x) next r t h = absurd (clash cc)
 told-then {A} {B} text mid rest from at ns now after f g (made a m) next r t h = go (next m) r (h m (sym (t .0)) (t .2))
   where
@@ -112,14 +111,15 @@ told-then {A} {B} text mid rest from at ns now after f g (made a m) next r t h =
     go (made b k) (Err x) u = absurd u
     go (made b k) (Ok end) u =
         let x = f (from .used) a in
-        let at-is : at .used ≡ from .used + length x = t .0 ∙ t .1 in
-        (u .0,
-         u .1 ∙ ap (λ j. j + length (g j b)) at-is ∙ (omega (arith, length-append x (g (from .used + length x) b))),
-         u .2,
-         u .3 ∙ ap (λ y. puts y (at .used) (g (at .used) b)) (t .3) ∙ ap (λ j. puts (puts ns (from .used) x) j (g j b)) at-is ∙ sym (puts-++ ns (from .used) x (g (from .used + length x) b)))
+        let at-is : at .used ≡ from .used + length x = t .0 ∙ t .1 in (
+          u .0,
+          u .1 ∙ ap (λ j. j + length (g j b)) at-is ∙ (omega (arith, length-append x (g (from .used + length x) b))),
+          u .2,
+          u .3 ∙ ap (λ y. puts y (at .used) (g (at .used) b)) (t .3) ∙ ap (λ j. puts (puts ns (from .used) x) j (g j b)) at-is ∙ sym (puts-++ ns (from .used) x (g (from .used + length x) b)),
+        )
 
 pub told-stop : {A B : Type 0} (text : List ℕ) (mid rest : Lexed) (from : Spot) (ns now : List Node) (f : ℕ → A → List Node) (g : A → Tally → Outcome B) (h : B → List Node) (o : Outcome A) (x : Refused)
-  → Told text mid from ns (f (from .used)) o (Err x) now → Told text rest from ns h (andThen o g) (Err x) now
+    → Told text mid from ns (f (from .used)) o (Err x) now → Told text rest from ns h (andThen o g) (Err x) now
 told-stop text mid rest from ns now f g h (refused y) x t = t
 told-stop text mid rest from ns now f g h (made a m) x t = absurd t
 
@@ -129,20 +129,23 @@ set-puts ns i j x [] h = refl
 set-puts ns i j x (y ∷ xs) h = set-puts (set ns j y) i (j + 1) x xs (omega arith) ∙ ap (λ ms. puts ms (j + 1) xs) (set-comm ns j i y x (λ z. omega arith))
 
 pub told-under : {A : Type 0} (text : List ℕ) (rest : Lexed) (from at end : Spot) (ns after : List Node) (e : ℕ → A → List Node) (o : Outcome A) (f : NodeForm) (p : ℕ)
-  → at .used ≡ from .used + 1 → Told text rest at ns (e (at .used)) o (Ok end) after
-  → Told text rest from ns (under f p e (from .used)) o (Ok end) (set after (from .used) (node f p (end .used)))
+    → at .used ≡ from .used + 1 → Told text rest at ns (e (at .used)) o (Ok end) after
+    → Told text rest from ns (under f p e (from .used)) o (Ok end) (set after (from .used) (node f p (end .used)))
 told-under text rest from at end ns after e (refused x) f p is t = absurd (clash cc)
 told-under text rest from at end ns after e (made a m) f p is t =
     let i = from .used in
     let t0 = t .0 in
     let size : m .nodes ≡ i + 1 + length (e (i + 1) a) = t .1 ∙ ap (λ j. j + length (e j a)) is in
     let end-is : end .used ≡ i + 1 + length (e (i + 1) a) = t0 ∙ size in
-    let less : i < i + 1 = omega arith in
-    (t0, omega arith, t .2,
-     ap (λ ms. set ms i (node f p (end .used))) (t .3 ∙ ap (λ j. puts ns j (e j a)) is) ∙ set-puts ns i (i + 1) (node f p (end .used)) (e (i + 1) a) less ∙ ap (λ j. puts (set ns i (node f p j)) (i + 1) (e (i + 1) a)) end-is)
+    let less : i < i + 1 = omega arith in (
+      t0,
+      omega arith,
+      t .2,
+      ap (λ ms. set ms i (node f p (end .used))) (t .3 ∙ ap (λ j. puts ns j (e j a)) is) ∙ set-puts ns i (i + 1) (node f p (end .used)) (e (i + 1) a) less ∙ ap (λ j. puts (set ns i (node f p j)) (i + 1) (e (i + 1) a)) end-is,
+    )
 
 pub told-refused : {A : Type 0} (text : List ℕ) (mid rest : Lexed) (at from : Spot) (ms ns after now : List Node) (f : A → List Node) (g : A → List Node) (o : Outcome A) (x : Refused)
-  → Told text mid at ms f o (Err x) after → Told text rest from ns g o (Err x) now
+    → Told text mid at ms f o (Err x) after → Told text rest from ns g o (Err x) now
 told-refused text mid rest at from ms ns after now f g (refused y) x t = t
 told-refused text mid rest at from ms ns after now f g (made a m) x t = absurd t
 
@@ -183,7 +186,7 @@ module _ (entries : ℕ) (read : Sexp → Tally → Outcome Expr) where
   As f p encoding a e = (i : ℕ) → under f p encoding i a ≡ encode i e
 
   pub if-alike : (p : ℕ) (a b c : Sexp) (n : Tally) → Alike (As form.If p (encodeEach encode)) (readEach read (cons a (cons b (cons c nil))) n)
-    (andThen (read a n) (λ x n. andThen (read b n) (λ y n. andThen (read c n) (λ z n. made (if-expr p x y z) n))))
+      (andThen (read a n) (λ x n. andThen (read b n) (λ y n. andThen (read c n) (λ z n. made (if-expr p x y z) n))))
   if-alike p a b c n = alike-same (read a n) (λ x m. second x (read b m))
     where
       third : (x y : Expr) (o : Outcome Expr) → Alike (As form.If p (encodeEach encode)) (andThen (andThen (andThen o (λ z n. made (z ∷ []) n)) (λ xs n. made (y ∷ xs) n)) (λ xs n. made (x ∷ xs) n)) (andThen o (λ z n. made (if-expr p x y z) n))
@@ -191,44 +194,45 @@ module _ (entries : ℕ) (read : Sexp → Tally → Outcome Expr) where
       third x y (made z m) = both-made (λ i.
           let j = i + 1 in
           under-is form.If p i (if-expr p x y z) _ _
-            (ap (λ k. encode j x ++ (encode (j + k) y ++ (encode (j + k + length (encode (j + k) y)) z ++ []))) (length-encode j x)
-             ∙ ap (λ k. encode j x ++ (encode (j + exprNodes x) y ++ (encode (j + exprNodes x + k) z ++ []))) (length-encode (j + exprNodes x) y)
-             ∙ ap (λ l. encode j x ++ (encode (j + exprNodes x) y ++ l)) (append-nil (encode (j + exprNodes x + exprNodes y) z)))
-            (length-encode i (if-expr p x y z)))
+          (ap (λ k. encode j x ++ (encode (j + k) y ++ (encode (j + k + length (encode (j + k) y)) z ++ []))) (length-encode j x)
+          ∙ ap (λ k. encode j x ++ (encode (j + exprNodes x) y ++ (encode (j + exprNodes x + k) z ++ []))) (length-encode (j + exprNodes x) y)
+          ∙ ap (λ l. encode j x ++ (encode (j + exprNodes x) y ++ l)) (append-nil (encode (j + exprNodes x + exprNodes y) z)))
+          (length-encode i (if-expr p x y z)))
+
       second : (x : Expr) (o : Outcome Expr) → Alike (As form.If p (encodeEach encode)) (andThen (andThen o (λ y n. andThen (andThen (read c n) (λ z n. made (z ∷ []) n)) (λ xs n. made (y ∷ xs) n))) (λ xs n. made (x ∷ xs) n)) (andThen o (λ y n. andThen (read c n) (λ z n. made (if-expr p x y z) n)))
       second x (refused r) = both-refused
       second x (made y m) = third x y (read c m)
 
   row-is : (f : NodeForm) (p i : ℕ) (x : Expr) (xs : List Expr) (es : Exprs) (e : Expr) → ((i : ℕ) → encodeEach encode i xs ≡ encodes i es)
-    → suc (length (encode (i + 1) x ++ encodes (i + 1 + exprNodes x) es)) ≡ exprNodes e → under f p (encodeEach encode) i (x ∷ xs) ≡ node f p (i + exprNodes e) ∷ (encode (i + 1) x ++ encodes (i + 1 + exprNodes x) es)
+      → suc (length (encode (i + 1) x ++ encodes (i + 1 + exprNodes x) es)) ≡ exprNodes e → under f p (encodeEach encode) i (x ∷ xs) ≡ node f p (i + exprNodes e) ∷ (encode (i + 1) x ++ encodes (i + 1 + exprNodes x) es)
   row-is f p i x xs es e r size = under-is f p i e _ _ (ap (λ l. encode (i + 1) x ++ l) (r (i + 1 + length (encode (i + 1) x)) ∙ ap (λ k. encodes (i + 1 + k) es) (length-encode (i + 1) x))) size
 
   pub begin-alike : (p : ℕ) (e : Sexp) (es : Sexps) (n : Tally) → Alike (As form.Begin p (encodeEach encode)) (readEach read (cons e es) n)
-    (andThen (read e n) (λ x n. andThen (readExprs entries read es n) (λ xs n. made (begin-expr p x xs) n)))
+      (andThen (read e n) (λ x n. andThen (readExprs entries read es n) (λ xs n. made (begin-expr p x xs) n)))
   begin-alike p e es n = alike-same (read e n) (λ x m. alike-then (exprs-alike es m) (λ xs ys k r. both-made (λ i. row-is form.Begin p i x xs ys (begin-expr p x ys) r (length-encode i (begin-expr p x ys)))))
 
   pub apply-alike : (p : ℕ) (e : Sexp) (es : Sexps) (n : Tally) → Alike (As form.Apply p (encodeEach encode)) (readEach read (cons e es) n)
-    (andThen (read e n) (λ x n. andThen (readExprs entries read es n) (λ xs n. made (apply-expr p x xs) n)))
+      (andThen (read e n) (λ x n. andThen (readExprs entries read es n) (λ xs n. made (apply-expr p x xs) n)))
   apply-alike p e es n = alike-same (read e n) (λ x m. alike-then (exprs-alike es m) (λ xs ys k r. both-made (λ i. row-is form.Apply p i x xs ys (apply-expr p x ys) r (length-encode i (apply-expr p x ys)))))
 
   pub let-alike : (p : ℕ) (ss : Sexps) (e : Sexp) (n : Tally) → Alike (As form.Let p (both (encodeEach encode-binding) (encodeEach encode)))
-    (andThen (readEach (readBinding entries read) ss n) (λ xs n. andThen (readEach read (cons e nil) n) (λ ys n. made (xs, ys) n)))
-    (andThen (readBindings entries read ss n) (λ xs n. andThen (read e n) (λ y n. made (let-expr p xs y) n)))
+      (andThen (readEach (readBinding entries read) ss n) (λ xs n. andThen (readEach read (cons e nil) n) (λ ys n. made (xs, ys) n)))
+      (andThen (readBindings entries read ss n) (λ xs n. andThen (read e n) (λ y n. made (let-expr p xs y) n)))
   let-alike p ss e n = alike-then (bindings-alike ss n) (λ xs bs m r. body xs bs r (read e m))
     where
       body : (xs : List Binding) (bs : Bindings) → ((i : ℕ) → encodeEach encode-binding i xs ≡ encode-bindings i bs) → (o : Outcome Expr)
-        → Alike (As form.Let p (both (encodeEach encode-binding) (encodeEach encode))) (andThen (andThen o (λ y n. made (y ∷ []) n)) (λ ys n. made (xs, ys) n)) (andThen o (λ y n. made (let-expr p bs y) n))
+          → Alike (As form.Let p (both (encodeEach encode-binding) (encodeEach encode))) (andThen (andThen o (λ y n. made (y ∷ []) n)) (λ ys n. made (xs, ys) n)) (andThen o (λ y n. made (let-expr p bs y) n))
       body xs bs r (refused x) = both-refused
       body xs bs r (made y m) = both-made (λ i.
           let j = i + 1 in
           under-is form.Let p i (let-expr p bs y) _ _
-            (ap (λ l. l ++ (encode (j + length l) y ++ [])) (r j) ∙ ap (λ k. encode-bindings j bs ++ (encode (j + k) y ++ [])) (length-bindings j bs) ∙ ap (λ l. encode-bindings j bs ++ l) (append-nil (encode (j + bindingsNodes bs) y)))
-            (length-encode i (let-expr p bs y)))
+          (ap (λ l. l ++ (encode (j + length l) y ++ [])) (r j) ∙ ap (λ k. encode-bindings j bs ++ (encode (j + k) y ++ [])) (length-bindings j bs) ∙ ap (λ l. encode-bindings j bs ++ l) (append-nil (encode (j + bindingsNodes bs) y)))
+          (length-encode i (let-expr p bs y)))
 
   pub case-alike : (p : ℕ) (e b : Sexp) (bs : Sexps) (n : Tally) → Alike (As form.Case p (both encode (encodeEach encode-branch)))
-    (andThen (read e n) (λ x n. andThen (readEach (readBranch entries read) (cons b bs) n) (λ ys n. made (x, ys) n)))
-    (andThen (read e n) (λ x n. andThen (readBranches entries read b bs n) (λ xs n. made (case-expr p x xs) n)))
+      (andThen (read e n) (λ x n. andThen (readEach (readBranch entries read) (cons b bs) n) (λ ys n. made (x, ys) n)))
+      (andThen (read e n) (λ x n. andThen (readBranches entries read b bs n) (λ xs n. made (case-expr p x xs) n)))
   case-alike p e b bs n = alike-same (read e n) (λ x m. alike-then (branches-alike b bs m) (λ xs ys k r. both-made (λ i.
       under-is form.Case p i (case-expr p x ys) _ _
-        (ap (λ l. encode (i + 1) x ++ l) (r (i + 1 + length (encode (i + 1) x)) ∙ ap (λ k. encode-branches (i + 1 + k) ys) (length-encode (i + 1) x)))
-        (length-encode i (case-expr p x ys)))))
+      (ap (λ l. encode (i + 1) x ++ l) (r (i + 1 + length (encode (i + 1) x)) ∙ ap (λ k. encode-branches (i + 1 + k) ys) (length-encode (i + 1) x)))
+      (length-encode i (case-expr p x ys)))))

@@ -1,33 +1,29 @@
 -- Patterns and their parts, by what stands next.
 use mathlib.Core.Path.{_≡_, refl, sym, ap, subst, _∙_}
-use mathlib.Core.Bool.{Bool, true, false, cond}
-use mathlib.Core.List.{List, [], _∷_}
-use Prim.Native.Nat.{ℕ, _+_, _≤_, _<_}
+use mathlib.Core.Bool.{true, false}
+use mathlib.Core.List.{List, _∷_}
+use Prim.Native.Nat.{ℕ}
 use native.Mathlib.Omega.{arith}
-use lib.ListN.{length}
 use Rattle.std.specs.declared.result.Result.{Result}
 use Rattle.std.specs.declared.result.Result.the-variants.{Ok, Err}
 use Rattle.text.specs.Grammar.{NoBracket}
 use Rattle.text.specs.Scans.{refusedAt}
 use Rattle.text.specs.Tokens.{Lexeme, lexeme, Lexed, also, lexedFrom}
 use Rattle.text.specs.declared.bracket.Bracket.{Bracket}
-use Rattle.text.specs.declared.keyword.Keyword.the-variants as keyword
 use Rattle.text.specs.declared.refusal.Refused.{Refused}
 use Rattle.text.specs.declared.refusal.Refusal.the-variants as refusal
 use Rattle.text.specs.declared.token.TokenKind.{TokenKind}
 use Rattle.text.specs.declared.token.TokenKind.the-variants as kind
-use Rattle.syntax.specs.Forms.{isKey}
 use Rattle.syntax.specs.Looks.{Seen, Named, NotClosing}
 use Rattle.syntax.specs.Patterns.{isWildcard, isPart, Passed, PassedAll, Patterned}
-use Rattle.syntax.specs.Reading.{Tally, Outcome, refused, made, andThen, partOf, readPart, readParts, nameOf, readName, readConstructorPattern, wildcardOf, readPattern}
+use Rattle.syntax.specs.Reading.{Tally, Outcome, refused, made, andThen, partOf, readPart, readParts, readName, readConstructorPattern, wildcardOf, readPattern}
 use Rattle.syntax.specs.Rows.{closedBy}
-use Rattle.syntax.specs.Sexps.{Sexp, atom, list, Sexps, nil, cons, closing, opening, Atoms, AllAtoms}
+use Rattle.syntax.specs.Sexps.{Sexp, Sexps, nil, cons, closing, Atoms}
 use Rattle.syntax.specs.Streams.{stream}
 use Rattle.syntax.specs.Trees.{Ident, PatternPart, skipped, Pattern, wildcard, constructor}
 use Rattle.syntax.specs.declared.names.NameAt.{NameAt}
-use Rattle.syntax.specs.declared.patterns.PatternAt.{PatternAt}
-use Rattle.syntax.proofs.LookLaws.{Listed, is-atom, is-list, not-close, some-token}
-use Rattle.syntax.proofs.RowLaws.{left-none, left-some}
+use Rattle.syntax.proofs.LookLaws.{is-atom, is-list, some-token}
+use Rattle.syntax.proofs.RowLaws.{left-none}
 
 clash : _≡_ {A = ℕ} 0 1 → ⊥
 clash z = omega arith
@@ -86,7 +82,7 @@ module _ (text : List ℕ) (at : ℕ) where
       let is = is-atom k p w (lexedFrom text after) s (closedBy ss shape q rest) b (sym (seen .follows) ∙ e) in
       let g = part-good k p w n good in
       subst (λ o. Passed text rest (andThen o (λ x n. andThen (readParts ss n) (λ xs n. made (x ∷ xs) n))) r) (sym (ap (λ s. readPart s n) (is .0) ∙ g .1))
-        (passed-on text rest (readParts ss n) (λ xs. g .0 ∷ xs) r (h ss shape q rest n (is .1) (a .1)))
+      (passed-on text rest (readParts ss n) (λ xs. g .0 ∷ xs) r (h ss shape q rest n (is .1) (a .1)))
 
   pub parts-other : (k : TokenKind) (w : List ℕ) (p after : ℕ) (x : Refused) → Seen text at k w p after → NoBracket k → isPart k ≡ false → x ≡ refusedAt refusal.Form p → PassedAll readParts text at (Err x)
   parts-other k w p after x seen b bad is-x nil shape q rest n e a =
@@ -122,15 +118,6 @@ module _ (text : List ℕ) (place at : ℕ) where
       let l = left-none ss shape q rest k p w (lexedFrom text after) (sym e ∙ seen .follows) a in
       subst (λ ss. Passed text rest (readConstructorPattern place ss n) (Err x)) (sym (l .0)) (ap Err is-x)
 
-  pub name-tally : (s : Sexp) (n : Tally) (o : Outcome Ident) → readName s n ≡ o → (i : Ident) (m : Tally) → o ≡ made i m → m ≡ n
-  name-tally (list shape p ss q) n o e i m f = absurd (clash cc)
-  name-tally (atom kind.Name p w) n o e i m f = cc
-  name-tally (atom (kind.Open r) p w) n o e i m f = absurd (clash cc)
-  name-tally (atom (kind.Close r) p w) n o e i m f = absurd (clash cc)
-  name-tally (atom kind.Symbol p w) n o e i m f = absurd (clash cc)
-  name-tally (atom (kind.Integer z) p w) n o e i m f = absurd (clash cc)
-  name-tally (atom (kind.Keyword k) p w) n o e i m f = absurd (clash cc)
-
   abbrev Names : Result NameAt Refused → Type 0
   Names r = (s : Sexp) (rest : Lexed) (n : Tally) → lexedFrom text at ≡ stream s rest → Atoms s → Named text rest (readName s n) r
 
@@ -158,6 +145,7 @@ pattern-made text rest p after (cons s ss) n t = go (readName s n) t
     rows : (c : Ident) (o : Outcome (List PatternPart)) → Passed text rest (andThen o (λ xs n. made (constructor p c xs) n)) (Ok after) → Patterned text rest (andThen o (λ xs n. made (constructor p c xs) n)) (Ok (record { place = p; after = after }))
     rows c (refused y) t = absurd (clash cc)
     rows c (made xs m) t = (refl, t)
+
     go : (o : Outcome Ident) → Passed text rest (andThen o (λ c n. andThen (readParts ss n) (λ xs n. made (constructor p c xs) n))) (Ok after) → Patterned text rest (andThen o (λ c n. andThen (readParts ss n) (λ xs n. made (constructor p c xs) n))) (Ok (record { place = p; after = after }))
     go (refused y) t = absurd (clash cc)
     go (made c m) t = rows c (readParts ss m) t
@@ -178,7 +166,7 @@ module _ (text : List ℕ) (place : ℕ) (s : Sexp) (rest : Lexed) (n : Tally) (
       subst (λ o. Patterned text rest o (Err x)) (sym (ap (λ s. readPattern s n) (is .0) ∙ wild-wrong k p n bad)) (ap Err is-x)
 
   pub pattern-list : (k : Bracket) (w : List ℕ) (p inside after : ℕ) → Seen text place (kind.Open k) w p inside → PassedAll (readConstructorPattern p) text inside (Ok after)
-    → Patterned text rest (readPattern s n) (Ok (record { place = p; after = after }))
+      → Patterned text rest (readPattern s n) (Ok (record { place = p; after = after }))
   pattern-list k w p inside after seen h =
       let l = is-list k p w (lexedFrom text inside) s rest a (sym (seen .follows) ∙ e) in
       subst (λ s. Patterned text rest (readPattern s n) (Ok (record { place = p; after = after }))) (sym (l .is)) (pattern-made text rest p after (l .parts) n (h (l .parts) (l .shape) (l .end) rest n (l .inside) (l .atoms)))

@@ -32,7 +32,13 @@ use text::Refused;
 use text::TokenKind;
 
 // A token that is an expression by itself, at a place, with the place behind it.
-fn single(kind: TokenKind, place: usize, after: usize, used: usize, nodes: &mut [Node]) -> Result<Spot, Refused>
+fn single(
+    kind: TokenKind,
+    place: usize,
+    after: usize,
+    used: usize,
+    nodes: &mut [Node],
+) -> Result<Spot, Refused>
     requires { ⌜ place ≤ after ⌝ ∗ ⌜ after ≤ 65535 ⌝ }
     ensures few { λ r. ⌜ made r (λ end. (end .place ≡ after) × (end .used ≤ 4096)) ⌝ }
     ensures told { λ r. ⌜ ((text w : List ℕ) (n : Tally) → Spelt kind w → after ≡ place + length w → n .nodes ≡ used → Told text (lexedFrom text after) (record { place = place; used = used }) (now (nodes .entry)) (encode used) (exprAtom (length (now (nodes .entry))) place (atomExpr (length (now (nodes .entry))) kind place w) n) r (now (nodes .exit))) ⌝ }
@@ -47,14 +53,22 @@ fn single(kind: TokenKind, place: usize, after: usize, used: usize, nodes: &mut 
                 place: place as u16,
                 past: past as u16,
             };
-            Ok(Spot { place: after, used: past })
+            Ok(Spot {
+                place: after,
+                used: past,
+            })
         }
         Err(refused) => Err(refused),
     }
 }
 
 // The expression at a spot, with at most so many brackets nested in it.
-pub fn expression(text: &[u8], spot: Spot, nodes: &mut [Node], depth: usize) -> Result<Spot, Refused>
+pub fn expression(
+    text: &[u8],
+    spot: Spot,
+    nodes: &mut [Node],
+    depth: usize,
+) -> Result<Spot, Refused>
     requires { ⌜ Ready (now text) spot ⌝ }
     ensures goes { λ r. ⌜ Goes (now (text .entry)) spot r ⌝ }
     ensures told { λ r. ⌜ OnPart (now (text .entry)) spot (now (nodes .entry)) encode (readExpr (length (now (nodes .entry))) depth) r (now (nodes .exit)) ⌝ }
@@ -65,7 +79,16 @@ pub fn expression(text: &[u8], spot: Spot, nodes: &mut [Node], depth: usize) -> 
             if depth == 0 {
                 return Err(wrong(at));
             }
-            list(text, at, Spot { place: inside, used: spot.used }, nodes, depth - 1)
+            list(
+                text,
+                at,
+                Spot {
+                    place: inside,
+                    used: spot.used,
+                },
+                nodes,
+                depth - 1,
+            )
         }
         Look::Close(at, _) => Err(wrong(at)),
         Look::End => Err(wrong(spot.place)),
@@ -73,7 +96,13 @@ pub fn expression(text: &[u8], spot: Spot, nodes: &mut [Node], depth: usize) -> 
 }
 
 // The list that begins at a place, by its form: from behind its bracket on.
-fn list(text: &[u8], place: usize, spot: Spot, nodes: &mut [Node], depth: usize) -> Result<Spot, Refused>
+fn list(
+    text: &[u8],
+    place: usize,
+    spot: Spot,
+    nodes: &mut [Node],
+    depth: usize,
+) -> Result<Spot, Refused>
     requires { ⌜ Ready (now text) spot ⌝ ∗ ⌜ place ≤ length (now text) ⌝ }
     ensures goes { λ r. ⌜ Goes (now (text .entry)) spot r ⌝ }
     ensures told { λ r. ⌜ OnEach (now (text .entry)) spot (now (nodes .entry)) encode (λ ss. readAt (length (now (nodes .entry))) depth place (formOf ss)) r (now (nodes .exit)) ⌝ }
@@ -94,13 +123,28 @@ fn list(text: &[u8], place: usize, spot: Spot, nodes: &mut [Node], depth: usize)
 }
 
 // A node before the expressions of its list.
-fn row(text: &[u8], place: usize, form: NodeForm, spot: Spot, nodes: &mut [Node], depth: usize) -> Result<Spot, Refused>
+fn row(
+    text: &[u8],
+    place: usize,
+    form: NodeForm,
+    spot: Spot,
+    nodes: &mut [Node],
+    depth: usize,
+) -> Result<Spot, Refused>
     requires { ⌜ Ready (now text) spot ⌝ ∗ ⌜ place ≤ length (now text) ⌝ }
     ensures goes { λ r. ⌜ Goes (now (text .entry)) spot r ⌝ }
     ensures told { λ r. ⌜ OnEach (now (text .entry)) spot (now (nodes .entry)) (under form place (encodeEach encode)) (readRow (length (now (nodes .entry))) place (readExpr (length (now (nodes .entry))) depth)) r (now (nodes .exit)) ⌝ }
 {
     match claim(spot.used, nodes.len(), place) {
-        Ok(first) => match expressions(text, Spot { place: spot.place, used: first }, nodes, depth) {
+        Ok(first) => match expressions(
+            text,
+            Spot {
+                place: spot.place,
+                used: first,
+            },
+            nodes,
+            depth,
+        ) {
             Ok(end) => {
                 nodes[spot.used] = Node {
                     form,
@@ -124,7 +168,10 @@ fn expressions(text: &[u8], spot: Spot, nodes: &mut [Node], depth: usize) -> Res
     let mut at = spot;
     'parts: loop {
         match closing_at(text, at.place) {
-            Some(after) => return Ok(Spot { place: after, used: at.used }),
+            Some(after) => return Ok(Spot {
+                place: after,
+                used: at.used,
+            }),
             None => match expression(text, at, nodes, depth) {
                 Ok(end) => at = end,
                 Err(refused) => return Err(refused),
@@ -134,14 +181,28 @@ fn expressions(text: &[u8], spot: Spot, nodes: &mut [Node], depth: usize) -> Res
 }
 
 // A let, from its bindings on.
-fn let_form(text: &[u8], place: usize, spot: Spot, nodes: &mut [Node], depth: usize) -> Result<Spot, Refused>
+fn let_form(
+    text: &[u8],
+    place: usize,
+    spot: Spot,
+    nodes: &mut [Node],
+    depth: usize,
+) -> Result<Spot, Refused>
     requires { ⌜ Ready (now text) spot ⌝ ∗ ⌜ place ≤ length (now text) ⌝ }
     ensures goes { λ r. ⌜ Goes (now (text .entry)) spot r ⌝ }
     ensures told { λ r. ⌜ ((bs e : Sexp) → OnList (now (text .entry)) spot (now (nodes .entry)) encode (cons bs (cons e nil)) (readAt (length (now (nodes .entry))) depth place (let-form bs e)) r (now (nodes .exit))) ⌝ }
 {
     match claim(spot.used, nodes.len(), place) {
         Ok(first) => match look_at(text, spot.place) {
-            Look::Open(_, inside) => match bindings(text, Spot { place: inside, used: first }, nodes, depth) {
+            Look::Open(_, inside) => match bindings(
+                text,
+                Spot {
+                    place: inside,
+                    used: first,
+                },
+                nodes,
+                depth,
+            ) {
                 Ok(middle) => match expressions(text, middle, nodes, depth) {
                     Ok(end) => {
                         nodes[spot.used] = Node {
@@ -172,7 +233,10 @@ fn bindings(text: &[u8], spot: Spot, nodes: &mut [Node], depth: usize) -> Result
     let mut at = spot;
     'parts: loop {
         match closing_at(text, at.place) {
-            Some(after) => return Ok(Spot { place: after, used: at.used }),
+            Some(after) => return Ok(Spot {
+                place: after,
+                used: at.used,
+            }),
             None => match binding(text, at, nodes, depth) {
                 Ok(end) => at = end,
                 Err(refused) => return Err(refused),
@@ -192,7 +256,16 @@ fn binding(text: &[u8], spot: Spot, nodes: &mut [Node], depth: usize) -> Result<
             if survey_at(text, inside).parts != 2 {
                 return Err(wrong(at));
             }
-            bound(text, at, Spot { place: inside, used: spot.used }, nodes, depth)
+            bound(
+                text,
+                at,
+                Spot {
+                    place: inside,
+                    used: spot.used,
+                },
+                nodes,
+                depth,
+            )
         }
         Look::Atom(_, at, _) => Err(wrong(at)),
         Look::Close(at, _) => Err(wrong(at)),
@@ -201,14 +274,28 @@ fn binding(text: &[u8], spot: Spot, nodes: &mut [Node], depth: usize) -> Result<
 }
 
 // The name and the expression of the binding that begins at a place.
-fn bound(text: &[u8], place: usize, spot: Spot, nodes: &mut [Node], depth: usize) -> Result<Spot, Refused>
+fn bound(
+    text: &[u8],
+    place: usize,
+    spot: Spot,
+    nodes: &mut [Node],
+    depth: usize,
+) -> Result<Spot, Refused>
     requires { ⌜ Ready (now text) spot ⌝ ∗ ⌜ place ≤ length (now text) ⌝ }
     ensures goes { λ r. ⌜ Goes (now (text .entry)) spot r ⌝ }
     ensures told { λ r. ⌜ ((x e : Sexp) → OnList (now (text .entry)) spot (now (nodes .entry)) encode-binding (cons x (cons e nil)) (bindingOf (length (now (nodes .entry))) (readExpr (length (now (nodes .entry))) depth) place (two x e)) r (now (nodes .exit))) ⌝ }
 {
     match claim(spot.used, nodes.len(), place) {
         Ok(first) => match name_at(text, spot.place) {
-            Ok(name) => match expressions(text, Spot { place: name.after, used: first }, nodes, depth) {
+            Ok(name) => match expressions(
+                text,
+                Spot {
+                    place: name.after,
+                    used: first,
+                },
+                nodes,
+                depth,
+            ) {
                 Ok(end) => {
                     nodes[spot.used] = Node {
                         form: NodeForm::Binding(name.place as u16, (name.after - name.place) as u8),
@@ -226,13 +313,27 @@ fn bound(text: &[u8], place: usize, spot: Spot, nodes: &mut [Node], depth: usize
 }
 
 // A case, from its subject on.
-fn case_form(text: &[u8], place: usize, spot: Spot, nodes: &mut [Node], depth: usize) -> Result<Spot, Refused>
+fn case_form(
+    text: &[u8],
+    place: usize,
+    spot: Spot,
+    nodes: &mut [Node],
+    depth: usize,
+) -> Result<Spot, Refused>
     requires { ⌜ Ready (now text) spot ⌝ ∗ ⌜ place ≤ length (now text) ⌝ }
     ensures goes { λ r. ⌜ Goes (now (text .entry)) spot r ⌝ }
     ensures told { λ r. ⌜ ((e b : Sexp) (bs : Sexps) → OnList (now (text .entry)) spot (now (nodes .entry)) encode (cons e (cons b bs)) (readAt (length (now (nodes .entry))) depth place (case-form e b bs)) r (now (nodes .exit))) ⌝ }
 {
     match claim(spot.used, nodes.len(), place) {
-        Ok(first) => match expression(text, Spot { place: spot.place, used: first }, nodes, depth) {
+        Ok(first) => match expression(
+            text,
+            Spot {
+                place: spot.place,
+                used: first,
+            },
+            nodes,
+            depth,
+        ) {
             Ok(middle) => match branches(text, middle, nodes, depth) {
                 Ok(end) => {
                     nodes[spot.used] = Node {
@@ -259,7 +360,10 @@ fn branches(text: &[u8], spot: Spot, nodes: &mut [Node], depth: usize) -> Result
     let mut at = spot;
     'parts: loop {
         match closing_at(text, at.place) {
-            Some(after) => return Ok(Spot { place: after, used: at.used }),
+            Some(after) => return Ok(Spot {
+                place: after,
+                used: at.used,
+            }),
             None => match branch(text, at, nodes, depth) {
                 Ok(end) => at = end,
                 Err(refused) => return Err(refused),
@@ -279,7 +383,16 @@ fn branch(text: &[u8], spot: Spot, nodes: &mut [Node], depth: usize) -> Result<S
             if survey_at(text, inside).parts != 2 {
                 return Err(wrong(at));
             }
-            arm(text, at, Spot { place: inside, used: spot.used }, nodes, depth)
+            arm(
+                text,
+                at,
+                Spot {
+                    place: inside,
+                    used: spot.used,
+                },
+                nodes,
+                depth,
+            )
         }
         Look::Atom(_, at, _) => Err(wrong(at)),
         Look::Close(at, _) => Err(wrong(at)),
@@ -288,14 +401,28 @@ fn branch(text: &[u8], spot: Spot, nodes: &mut [Node], depth: usize) -> Result<S
 }
 
 // The pattern and the expression of the branch that begins at a place.
-fn arm(text: &[u8], place: usize, spot: Spot, nodes: &mut [Node], depth: usize) -> Result<Spot, Refused>
+fn arm(
+    text: &[u8],
+    place: usize,
+    spot: Spot,
+    nodes: &mut [Node],
+    depth: usize,
+) -> Result<Spot, Refused>
     requires { ⌜ Ready (now text) spot ⌝ ∗ ⌜ place ≤ length (now text) ⌝ }
     ensures goes { λ r. ⌜ Goes (now (text .entry)) spot r ⌝ }
     ensures told { λ r. ⌜ ((x e : Sexp) → OnList (now (text .entry)) spot (now (nodes .entry)) encode-branch (cons x (cons e nil)) (branchOf (length (now (nodes .entry))) (readExpr (length (now (nodes .entry))) depth) place (two x e)) r (now (nodes .exit))) ⌝ }
 {
     match claim(spot.used, nodes.len(), place) {
         Ok(first) => match pattern_at(text, spot.place) {
-            Ok(pattern) => match expressions(text, Spot { place: pattern.after, used: first }, nodes, depth) {
+            Ok(pattern) => match expressions(
+                text,
+                Spot {
+                    place: pattern.after,
+                    used: first,
+                },
+                nodes,
+                depth,
+            ) {
                 Ok(end) => {
                     nodes[spot.used] = Node {
                         form: NodeForm::Branch(pattern.place as u16),
@@ -327,7 +454,10 @@ fn dup_form(text: &[u8], place: usize, spot: Spot, nodes: &mut [Node]) -> Result
                         place: place as u16,
                         past: past as u16,
                     };
-                    Ok(Spot { place: after, used: past })
+                    Ok(Spot {
+                        place: after,
+                        used: past,
+                    })
                 }
                 None => Err(wrong(name.after)),
             },

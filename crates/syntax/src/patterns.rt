@@ -1,6 +1,6 @@
 // Patterns of branches.
 ghost use mathlib.Core.Path.{_≡_};
-ghost use Prim.Native.Nat.{ℕ, _≤_};
+ghost use Prim.Native.Nat.{_≤_};
 ghost use lib.ListN.{length};
 ghost use Rattle.syntax.specs.Patterns.{isWildcard, isPart, GoesParts, GoesPattern, PassedAll, Patterned};
 ghost use Rattle.syntax.specs.Reading.{Tally, readParts, readConstructorPattern, readPattern};

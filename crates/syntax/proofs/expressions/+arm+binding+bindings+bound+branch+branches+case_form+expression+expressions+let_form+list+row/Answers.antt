@@ -1,5 +1,5 @@
 use mathlib.Core.Path.{_≡_, refl, sym, ap, subst, _∙_}
-use Prim.Native.Nat.{_-_, _+_, _≤_, _<_}
+use Prim.Native.Nat.{_-_}
 use native.Mathlib.Omega.{arith}
 use lib.ListN.{length}
 use Rattle.std.specs.declared.result.Result.the-variants.{Ok, Err}
@@ -40,9 +40,13 @@ expressions-parts-again t c =
     let from = inv .0 in
     let part = c .in-Ok .ensures tt in
     let forward = part .goes .0 in
-    let long : length (c .parts .nodes) ≡ length (c .args .nodes .now) = c .parts .kept .nodes in
-    (omega arith, part .goes .1, part .goes .2, half-next (readExpr (length (c .args .nodes .now)) (c .args .depth)) encode (c .args .text .now) (c .args .spot) (c .args .nodes .now) (c .parts .at) (c .parts .nodes) (inv .3) (c .in-None .ensures tt) (c .in-Ok .end) (c .expression .last .nodes)
-      (subst (λ k. OnPart (c .args .text .now) (c .parts .at) (c .parts .nodes) encode (readExpr k (c .args .depth)) (Ok (c .in-Ok .end)) (c .expression .last .nodes)) long (part .told)))
+    let long : length (c .parts .nodes) ≡ length (c .args .nodes .now) = c .parts .kept .nodes in (
+      omega arith,
+      part .goes .1,
+      part .goes .2,
+      half-next (readExpr (length (c .args .nodes .now)) (c .args .depth)) encode (c .args .text .now) (c .args .spot) (c .args .nodes .now) (c .parts .at) (c .parts .nodes) (inv .3) (c .in-None .ensures tt) (c .in-Ok .end) (c .expression .last .nodes)
+          (subst (λ k. OnPart (c .args .text .now) (c .parts .at) (c .parts .nodes) encode (readExpr k (c .args .depth)) (Ok (c .in-Ok .end)) (c .expression .last .nodes)) long (part .told)),
+    )
 
 pub expressions-returns-in-Err : need.expressions-returns-in-Err
 expressions-returns-in-Err t c =
@@ -52,7 +56,7 @@ expressions-returns-in-Err t c =
     record {
       goes = tt;
       told = half-refused (readExpr (length (c .args .nodes .now)) (c .args .depth)) encode (c .args .text .now) (c .args .spot) (c .args .nodes .now) (c .parts .at) (c .parts .nodes) (inv .3) (c .in-None .ensures tt) (c .in-Err .refused) (c .expression .last .nodes)
-        (subst (λ k. OnPart (c .args .text .now) (c .parts .at) (c .parts .nodes) encode (readExpr k (c .args .depth)) (Err (c .in-Err .refused)) (c .expression .last .nodes)) long (part .told));
+          (subst (λ k. OnPart (c .args .text .now) (c .parts .at) (c .parts .nodes) encode (readExpr k (c .args .depth)) (Err (c .in-Err .refused)) (c .expression .last .nodes)) long (part .told));
     }
 
 pub bindings-parts-holds : need.bindings-parts-holds
@@ -73,9 +77,13 @@ bindings-parts-again t c =
     let from = inv .0 in
     let part = c .in-Ok .ensures tt in
     let forward = part .goes .0 in
-    let long : length (c .parts .nodes) ≡ length (c .args .nodes .now) = c .parts .kept .nodes in
-    (omega arith, part .goes .1, part .goes .2, half-next (readBinding (length (c .args .nodes .now)) (readExpr (length (c .args .nodes .now)) (c .args .depth))) encode-binding (c .args .text .now) (c .args .spot) (c .args .nodes .now) (c .parts .at) (c .parts .nodes) (inv .3) (c .in-None .ensures tt) (c .in-Ok .end) (c .binding .last .nodes)
-      (subst (λ k. OnPart (c .args .text .now) (c .parts .at) (c .parts .nodes) encode-binding (readBinding k (readExpr k (c .args .depth))) (Ok (c .in-Ok .end)) (c .binding .last .nodes)) long (part .told)))
+    let long : length (c .parts .nodes) ≡ length (c .args .nodes .now) = c .parts .kept .nodes in (
+      omega arith,
+      part .goes .1,
+      part .goes .2,
+      half-next (readBinding (length (c .args .nodes .now)) (readExpr (length (c .args .nodes .now)) (c .args .depth))) encode-binding (c .args .text .now) (c .args .spot) (c .args .nodes .now) (c .parts .at) (c .parts .nodes) (inv .3) (c .in-None .ensures tt) (c .in-Ok .end) (c .binding .last .nodes)
+          (subst (λ k. OnPart (c .args .text .now) (c .parts .at) (c .parts .nodes) encode-binding (readBinding k (readExpr k (c .args .depth))) (Ok (c .in-Ok .end)) (c .binding .last .nodes)) long (part .told)),
+    )
 
 pub bindings-returns-in-Err : need.bindings-returns-in-Err
 bindings-returns-in-Err t c =
@@ -85,7 +93,7 @@ bindings-returns-in-Err t c =
     record {
       goes = tt;
       told = half-refused (readBinding (length (c .args .nodes .now)) (readExpr (length (c .args .nodes .now)) (c .args .depth))) encode-binding (c .args .text .now) (c .args .spot) (c .args .nodes .now) (c .parts .at) (c .parts .nodes) (inv .3) (c .in-None .ensures tt) (c .in-Err .refused) (c .binding .last .nodes)
-        (subst (λ k. OnPart (c .args .text .now) (c .parts .at) (c .parts .nodes) encode-binding (readBinding k (readExpr k (c .args .depth))) (Err (c .in-Err .refused)) (c .binding .last .nodes)) long (part .told));
+          (subst (λ k. OnPart (c .args .text .now) (c .parts .at) (c .parts .nodes) encode-binding (readBinding k (readExpr k (c .args .depth))) (Err (c .in-Err .refused)) (c .binding .last .nodes)) long (part .told));
     }
 
 pub branches-parts-holds : need.branches-parts-holds
@@ -106,9 +114,13 @@ branches-parts-again t c =
     let from = inv .0 in
     let part = c .in-Ok-end .ensures tt in
     let forward = part .goes .0 in
-    let long : length (c .parts .nodes) ≡ length (c .args .nodes .now) = c .parts .kept .nodes in
-    (omega arith, part .goes .1, part .goes .2, half-next (readBranch (length (c .args .nodes .now)) (readExpr (length (c .args .nodes .now)) (c .args .depth))) encode-branch (c .args .text .now) (c .args .spot) (c .args .nodes .now) (c .parts .at) (c .parts .nodes) (inv .3) (c .in-None .ensures tt) (c .in-Ok-end .end) (c .branch-end .last .nodes)
-      (subst (λ k. OnPart (c .args .text .now) (c .parts .at) (c .parts .nodes) encode-branch (readBranch k (readExpr k (c .args .depth))) (Ok (c .in-Ok-end .end)) (c .branch-end .last .nodes)) long (part .told)))
+    let long : length (c .parts .nodes) ≡ length (c .args .nodes .now) = c .parts .kept .nodes in (
+      omega arith,
+      part .goes .1,
+      part .goes .2,
+      half-next (readBranch (length (c .args .nodes .now)) (readExpr (length (c .args .nodes .now)) (c .args .depth))) encode-branch (c .args .text .now) (c .args .spot) (c .args .nodes .now) (c .parts .at) (c .parts .nodes) (inv .3) (c .in-None .ensures tt) (c .in-Ok-end .end) (c .branch-end .last .nodes)
+          (subst (λ k. OnPart (c .args .text .now) (c .parts .at) (c .parts .nodes) encode-branch (readBranch k (readExpr k (c .args .depth))) (Ok (c .in-Ok-end .end)) (c .branch-end .last .nodes)) long (part .told)),
+    )
 
 pub branches-returns-in-Err-end : need.branches-returns-in-Err-end
 branches-returns-in-Err-end t c =
@@ -118,7 +130,7 @@ branches-returns-in-Err-end t c =
     record {
       goes = tt;
       told = half-refused (readBranch (length (c .args .nodes .now)) (readExpr (length (c .args .nodes .now)) (c .args .depth))) encode-branch (c .args .text .now) (c .args .spot) (c .args .nodes .now) (c .parts .at) (c .parts .nodes) (inv .3) (c .in-None .ensures tt) (c .in-Err-end .refused) (c .branch-end .last .nodes)
-        (subst (λ k. OnPart (c .args .text .now) (c .parts .at) (c .parts .nodes) encode-branch (readBranch k (readExpr k (c .args .depth))) (Err (c .in-Err-end .refused)) (c .branch-end .last .nodes)) long (part .told));
+          (subst (λ k. OnPart (c .args .text .now) (c .parts .at) (c .parts .nodes) encode-branch (readBranch k (readExpr k (c .args .depth))) (Err (c .in-Err-end .refused)) (c .branch-end .last .nodes)) long (part .told));
     }
 
 pub expression-single-requires : need.expression-single-requires
@@ -135,7 +147,7 @@ expression-returns-in-Atom t c =
     record {
       goes = goes-single (c .args .text .now) (c .args .spot) (c .in-Atom .after) (c .single .result) (c .single .ensures .few) (sees .1 .forward) (sees .1 .within);
       told = λ s rest n e a u. expr-atom (c .args .text .now) (c .args .spot) (c .args .nodes .now) (length (c .args .nodes .now)) (c .args .depth) s rest n e (c .in-Atom .kind) (sees .0) (c .in-Atom .at) (c .in-Atom .after) (c .single .result) (c .single .last .nodes) (sees .1) (sees .2)
-        (c .single .ensures .told (c .args .text .now) (sees .0) n (sees .1 .spelt) (sees .1 .size) u);
+          (c .single .ensures .told (c .args .text .now) (sees .0) n (sees .1 .spelt) (sees .1 .size) u);
     }
 
 pub expression-returns-then-depth-eq0 : need.expression-returns-then-depth-eq0
@@ -266,7 +278,7 @@ case-form-returns-in-Ok-branches t c =
     record {
       goes = (omega arith, rest .goes .1, rest .goes .2);
       told = case-made (c .args .text .now) (c .args .spot) (c .args .nodes .now) (length (c .args .nodes .now)) (c .args .place) (c .in-Ok .first) (readExpr (length (c .args .nodes .now)) (c .args .depth)) (sym (c .in-Ok .ensures tt)) (c .in-Ok-expression .middle) (c .in-Ok-branches .end) (c .expression .last .nodes) (c .branches .last .nodes) (first .told)
-        (subst (λ k. OnEach (c .args .text .now) (c .in-Ok-expression .middle) (c .expression .last .nodes) (encodeEach encode-branch) (readEach (readBranch k (readExpr k (c .args .depth)))) (Ok (c .in-Ok-branches .end)) (c .branches .last .nodes)) long (rest .told));
+          (subst (λ k. OnEach (c .args .text .now) (c .in-Ok-expression .middle) (c .expression .last .nodes) (encodeEach encode-branch) (readEach (readBranch k (readExpr k (c .args .depth)))) (Ok (c .in-Ok-branches .end)) (c .branches .last .nodes)) long (rest .told));
     }
 
 pub case-form-returns-in-Err-branches : need.case-form-returns-in-Err-branches
@@ -277,7 +289,7 @@ case-form-returns-in-Err-branches t c =
     record {
       goes = tt;
       told = case-refused (c .args .text .now) (c .args .spot) (c .args .nodes .now) (length (c .args .nodes .now)) (c .args .place) (c .in-Ok .first) (readExpr (length (c .args .nodes .now)) (c .args .depth)) (sym (c .in-Ok .ensures tt)) (c .in-Ok-expression .middle) (c .in-Err-branches .refused) (c .expression .last .nodes) (c .branches .last .nodes) (first .told)
-        (subst (λ k. OnEach (c .args .text .now) (c .in-Ok-expression .middle) (c .expression .last .nodes) (encodeEach encode-branch) (readEach (readBranch k (readExpr k (c .args .depth)))) (Err (c .in-Err-branches .refused)) (c .branches .last .nodes)) long (rest .told));
+          (subst (λ k. OnEach (c .args .text .now) (c .in-Ok-expression .middle) (c .expression .last .nodes) (encodeEach encode-branch) (readEach (readBranch k (readExpr k (c .args .depth)))) (Err (c .in-Err-branches .refused)) (c .branches .last .nodes)) long (rest .told));
     }
 
 pub case-form-returns-in-Err-expression : need.case-form-returns-in-Err-expression
@@ -296,7 +308,7 @@ let-form-returns-in-Ok-expressions t c =
     record {
       goes = (omega arith, rest .goes .1, rest .goes .2);
       told = let-made (c .args .text .now) (c .args .spot) (c .args .nodes .now) (length (c .args .nodes .now)) (c .args .place) (c .in-Ok .first) (readExpr (length (c .args .nodes .now)) (c .args .depth)) (sym (c .in-Ok .ensures tt)) (sees .0) (sees .1 .0) _ (c .in-Open .inside) (sees .1 .1) (c .in-Ok-bindings .middle) (c .in-Ok-expressions .end) (c .bindings .last .nodes) (c .expressions .last .nodes) (first .told)
-        (subst (λ k. OnEach (c .args .text .now) (c .in-Ok-bindings .middle) (c .bindings .last .nodes) (encodeEach encode) (readEach (readExpr k (c .args .depth))) (Ok (c .in-Ok-expressions .end)) (c .expressions .last .nodes)) long (rest .told));
+          (subst (λ k. OnEach (c .args .text .now) (c .in-Ok-bindings .middle) (c .bindings .last .nodes) (encodeEach encode) (readEach (readExpr k (c .args .depth))) (Ok (c .in-Ok-expressions .end)) (c .expressions .last .nodes)) long (rest .told));
     }
 
 pub let-form-returns-in-Err-expressions : need.let-form-returns-in-Err-expressions
@@ -308,7 +320,7 @@ let-form-returns-in-Err-expressions t c =
     record {
       goes = tt;
       told = let-refused (c .args .text .now) (c .args .spot) (c .args .nodes .now) (length (c .args .nodes .now)) (c .args .place) (c .in-Ok .first) (readExpr (length (c .args .nodes .now)) (c .args .depth)) (sym (c .in-Ok .ensures tt)) (sees .0) (sees .1 .0) _ (c .in-Open .inside) (sees .1 .1) (c .in-Ok-bindings .middle) (c .in-Err-expressions .refused) (c .bindings .last .nodes) (c .expressions .last .nodes) (first .told)
-        (subst (λ k. OnEach (c .args .text .now) (c .in-Ok-bindings .middle) (c .bindings .last .nodes) (encodeEach encode) (readEach (readExpr k (c .args .depth))) (Err (c .in-Err-expressions .refused)) (c .expressions .last .nodes)) long (rest .told));
+          (subst (λ k. OnEach (c .args .text .now) (c .in-Ok-bindings .middle) (c .bindings .last .nodes) (encodeEach encode) (readEach (readExpr k (c .args .depth))) (Err (c .in-Err-expressions .refused)) (c .expressions .last .nodes)) long (rest .told));
     }
 
 pub let-form-returns-in-Err-bindings : need.let-form-returns-in-Err-bindings
@@ -334,41 +346,41 @@ pub list-returns-in-If : need.list-returns-in-If
 list-returns-in-If t c =
     record {
       goes = goes-back (c .args .text .now) (c .args .spot) (record { place = c .behind .result; used = c .args .spot .used }) (c .row .result) (c .behind .ensures .0) (c .row .ensures .goes);
-      told = by-view (c .args .text .now) (c .args .spot) (c .args .nodes .now) (length (c .args .nodes .now)) (c .args .depth) (c .args .place) (c .behind .result) (c .row .result) (c .row .last .nodes) (c .behind .ensures) formkind.If (c .in-If .ensures tt ∙ ap (λ s. formKind (s .head) (s .parts)) (c .survey-at .ensures)) (on-if (c .args .text .now) (c .args .spot) (c .args .nodes .now) (length (c .args .nodes .now)) (c .args .depth) (c .args .place) (c .behind .result) (c .row .result) (c .row .last .nodes) (c .behind .ensures) (c .row .ensures .told));
+      told = by-view (c .args .text .now) (c .args .spot) (c .args .nodes .now) (length (c .args .nodes .now)) (c .args .depth) (c .args .place) (c .row .result) (c .row .last .nodes) formkind.If (c .in-If .ensures tt ∙ ap (λ s. formKind (s .head) (s .parts)) (c .survey-at .ensures)) (on-if (c .args .text .now) (c .args .spot) (c .args .nodes .now) (length (c .args .nodes .now)) (c .args .depth) (c .args .place) (c .behind .result) (c .row .result) (c .row .last .nodes) (c .behind .ensures) (c .row .ensures .told));
     }
 
 pub list-returns-in-Begin : need.list-returns-in-Begin
 list-returns-in-Begin t c =
     record {
       goes = goes-back (c .args .text .now) (c .args .spot) (record { place = c .behind .result; used = c .args .spot .used }) (c .row-in-Begin .result) (c .behind .ensures .0) (c .row-in-Begin .ensures .goes);
-      told = by-view (c .args .text .now) (c .args .spot) (c .args .nodes .now) (length (c .args .nodes .now)) (c .args .depth) (c .args .place) (c .behind .result) (c .row-in-Begin .result) (c .row-in-Begin .last .nodes) (c .behind .ensures) formkind.Begin (c .in-Begin .ensures tt ∙ ap (λ s. formKind (s .head) (s .parts)) (c .survey-at .ensures)) (on-begin (c .args .text .now) (c .args .spot) (c .args .nodes .now) (length (c .args .nodes .now)) (c .args .depth) (c .args .place) (c .behind .result) (c .row-in-Begin .result) (c .row-in-Begin .last .nodes) (c .behind .ensures) (c .row-in-Begin .ensures .told));
+      told = by-view (c .args .text .now) (c .args .spot) (c .args .nodes .now) (length (c .args .nodes .now)) (c .args .depth) (c .args .place) (c .row-in-Begin .result) (c .row-in-Begin .last .nodes) formkind.Begin (c .in-Begin .ensures tt ∙ ap (λ s. formKind (s .head) (s .parts)) (c .survey-at .ensures)) (on-begin (c .args .text .now) (c .args .spot) (c .args .nodes .now) (length (c .args .nodes .now)) (c .args .depth) (c .args .place) (c .behind .result) (c .row-in-Begin .result) (c .row-in-Begin .last .nodes) (c .behind .ensures) (c .row-in-Begin .ensures .told));
     }
 
 pub list-returns-in-Let : need.list-returns-in-Let
 list-returns-in-Let t c =
     record {
       goes = goes-back (c .args .text .now) (c .args .spot) (record { place = c .behind .result; used = c .args .spot .used }) (c .let-form .result) (c .behind .ensures .0) (c .let-form .ensures .goes);
-      told = by-view (c .args .text .now) (c .args .spot) (c .args .nodes .now) (length (c .args .nodes .now)) (c .args .depth) (c .args .place) (c .behind .result) (c .let-form .result) (c .let-form .last .nodes) (c .behind .ensures) formkind.Let (c .in-Let .ensures tt ∙ ap (λ s. formKind (s .head) (s .parts)) (c .survey-at .ensures)) (on-let (c .args .text .now) (c .args .spot) (c .args .nodes .now) (length (c .args .nodes .now)) (c .args .depth) (c .args .place) (c .behind .result) (c .let-form .result) (c .let-form .last .nodes) (c .behind .ensures) (c .let-form .ensures .told));
+      told = by-view (c .args .text .now) (c .args .spot) (c .args .nodes .now) (length (c .args .nodes .now)) (c .args .depth) (c .args .place) (c .let-form .result) (c .let-form .last .nodes) formkind.Let (c .in-Let .ensures tt ∙ ap (λ s. formKind (s .head) (s .parts)) (c .survey-at .ensures)) (on-let (c .args .text .now) (c .args .spot) (c .args .nodes .now) (length (c .args .nodes .now)) (c .args .depth) (c .args .place) (c .behind .result) (c .let-form .result) (c .let-form .last .nodes) (c .behind .ensures) (c .let-form .ensures .told));
     }
 
 pub list-returns-in-Case : need.list-returns-in-Case
 list-returns-in-Case t c =
     record {
       goes = goes-back (c .args .text .now) (c .args .spot) (record { place = c .behind .result; used = c .args .spot .used }) (c .case-form .result) (c .behind .ensures .0) (c .case-form .ensures .goes);
-      told = by-view (c .args .text .now) (c .args .spot) (c .args .nodes .now) (length (c .args .nodes .now)) (c .args .depth) (c .args .place) (c .behind .result) (c .case-form .result) (c .case-form .last .nodes) (c .behind .ensures) formkind.Case (c .in-Case .ensures tt ∙ ap (λ s. formKind (s .head) (s .parts)) (c .survey-at .ensures)) (on-case (c .args .text .now) (c .args .spot) (c .args .nodes .now) (length (c .args .nodes .now)) (c .args .depth) (c .args .place) (c .behind .result) (c .case-form .result) (c .case-form .last .nodes) (c .behind .ensures) (c .case-form .ensures .told));
+      told = by-view (c .args .text .now) (c .args .spot) (c .args .nodes .now) (length (c .args .nodes .now)) (c .args .depth) (c .args .place) (c .case-form .result) (c .case-form .last .nodes) formkind.Case (c .in-Case .ensures tt ∙ ap (λ s. formKind (s .head) (s .parts)) (c .survey-at .ensures)) (on-case (c .args .text .now) (c .args .spot) (c .args .nodes .now) (length (c .args .nodes .now)) (c .args .depth) (c .args .place) (c .behind .result) (c .case-form .result) (c .case-form .last .nodes) (c .behind .ensures) (c .case-form .ensures .told));
     }
 
 pub list-returns-in-Dup : need.list-returns-in-Dup
 list-returns-in-Dup t c =
     record {
       goes = goes-back (c .args .text .now) (c .args .spot) (record { place = c .behind .result; used = c .args .spot .used }) (c .dup-form .result) (c .behind .ensures .0) (c .dup-form .ensures .goes);
-      told = by-view (c .args .text .now) (c .args .spot) (c .args .nodes .now) (length (c .args .nodes .now)) (c .args .depth) (c .args .place) (c .behind .result) (c .dup-form .result) (c .dup-form .last .nodes) (c .behind .ensures) formkind.Dup (c .in-Dup .ensures tt ∙ ap (λ s. formKind (s .head) (s .parts)) (c .survey-at .ensures)) (on-dup (c .args .text .now) (c .args .spot) (c .args .nodes .now) (length (c .args .nodes .now)) (c .args .depth) (c .args .place) (c .behind .result) (c .dup-form .result) (c .dup-form .last .nodes) (c .behind .ensures) (c .dup-form .ensures .told));
+      told = by-view (c .args .text .now) (c .args .spot) (c .args .nodes .now) (length (c .args .nodes .now)) (c .args .depth) (c .args .place) (c .dup-form .result) (c .dup-form .last .nodes) formkind.Dup (c .in-Dup .ensures tt ∙ ap (λ s. formKind (s .head) (s .parts)) (c .survey-at .ensures)) (on-dup (c .args .text .now) (c .args .spot) (c .args .nodes .now) (length (c .args .nodes .now)) (c .args .depth) (c .args .place) (c .behind .result) (c .dup-form .result) (c .dup-form .last .nodes) (c .behind .ensures) (c .dup-form .ensures .told));
     }
 
 pub list-returns-in-Apply : need.list-returns-in-Apply
 list-returns-in-Apply t c =
-    record { goes = c .row-in-Apply .ensures .goes; told = by-view (c .args .text .now) (c .args .spot) (c .args .nodes .now) (length (c .args .nodes .now)) (c .args .depth) (c .args .place) (c .behind .result) (c .row-in-Apply .result) (c .row-in-Apply .last .nodes) (c .behind .ensures) formkind.Apply (c .in-Apply .ensures tt ∙ ap (λ s. formKind (s .head) (s .parts)) (c .survey-at .ensures)) (on-apply (c .args .text .now) (c .args .spot) (c .args .nodes .now) (length (c .args .nodes .now)) (c .args .depth) (c .args .place) (c .behind .result) (c .row-in-Apply .result) (c .row-in-Apply .last .nodes) (c .behind .ensures) (c .row-in-Apply .ensures .told)) }
+    record { goes = c .row-in-Apply .ensures .goes; told = by-view (c .args .text .now) (c .args .spot) (c .args .nodes .now) (length (c .args .nodes .now)) (c .args .depth) (c .args .place) (c .row-in-Apply .result) (c .row-in-Apply .last .nodes) formkind.Apply (c .in-Apply .ensures tt ∙ ap (λ s. formKind (s .head) (s .parts)) (c .survey-at .ensures)) (on-apply (c .args .text .now) (c .args .spot) (c .args .nodes .now) (length (c .args .nodes .now)) (c .args .depth) (c .args .place) (c .behind .result) (c .row-in-Apply .result) (c .row-in-Apply .last .nodes) (c .behind .ensures) (c .row-in-Apply .ensures .told)) }
 
 pub list-returns-in-Wrong : need.list-returns-in-Wrong
 list-returns-in-Wrong t c =
-    record { goes = tt; told = by-view (c .args .text .now) (c .args .spot) (c .args .nodes .now) (length (c .args .nodes .now)) (c .args .depth) (c .args .place) (c .behind .result) (Err (c .wrong .result)) (c .args .nodes .now) (c .behind .ensures) formkind.Wrong (c .in-Wrong .ensures tt ∙ ap (λ s. formKind (s .head) (s .parts)) (c .survey-at .ensures)) (on-wrong (c .args .text .now) (c .args .spot) (c .args .nodes .now) (length (c .args .nodes .now)) (c .args .depth) (c .args .place) (c .behind .result) (Err (c .wrong .result)) (c .args .nodes .now) (c .behind .ensures) (ap Err (c .wrong .ensures))) }
+    record { goes = tt; told = by-view (c .args .text .now) (c .args .spot) (c .args .nodes .now) (length (c .args .nodes .now)) (c .args .depth) (c .args .place) (Err (c .wrong .result)) (c .args .nodes .now) formkind.Wrong (c .in-Wrong .ensures tt ∙ ap (λ s. formKind (s .head) (s .parts)) (c .survey-at .ensures)) (on-wrong (c .args .text .now) (c .args .spot) (c .args .nodes .now) (length (c .args .nodes .now)) (c .args .depth) (c .args .place) (c .behind .result) (Err (c .wrong .result)) (c .args .nodes .now) (c .behind .ensures) (ap Err (c .wrong .ensures))) }

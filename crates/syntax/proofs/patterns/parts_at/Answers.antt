@@ -21,9 +21,11 @@ parts-again c =
     let sees = c .in-Atom .ensures tt in
     let forward = sees .1 .forward in
     let inv = c .parts .inv in
-    let from = inv .0 in
-    (omega arith, sees .1 .within,
-     λ r h. inv .2 r (parts-next (c .args .text .now) (c .parts .at) (c .in-Atom .kind) (sees .0) (c .in-Atom .here) (c .in-Atom .after) (sees .1) (sees .2) (sym (c .if-not-is-part .ensures tt)) r h))
+    let from = inv .0 in (
+      omega arith,
+      sees .1 .within,
+      λ r h. inv .2 r (parts-next (c .args .text .now) (c .parts .at) (c .in-Atom .kind) (sees .0) (c .in-Atom .here) (c .in-Atom .after) (sees .1) (sees .2) (sym (c .if-not-is-part .ensures tt)) r h),
+    )
 
 pub returns-then-not-is-part : need.returns-then-not-is-part
 returns-then-not-is-part c =
