@@ -63,7 +63,7 @@ fn single(
 }
 
 // The expression at a spot, with at most so many brackets nested in it.
-pub fn expression(
+pub(crate) fn expression(
     text: &[u8],
     spot: Spot,
     nodes: &mut [Node],

@@ -1,4 +1,5 @@
-// The syntax layer: tokens as forms. The whole reader is not here yet: what stands are its parts, each proved.
+// The syntax layer: tokens as forms. Expressions are read into a node list; types, definitions and the call that reads a whole script
+// are still to come.
 mod atoms;
 mod expressions;
 mod form;

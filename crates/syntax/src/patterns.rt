@@ -83,7 +83,7 @@ fn constructor_at(text: &[u8], place: usize, inside: usize) -> Result<usize, Ref
     }
 }
 
-pub fn pattern_at(text: &[u8], place: usize) -> Result<PatternAt, Refused>
+pub(crate) fn pattern_at(text: &[u8], place: usize) -> Result<PatternAt, Refused>
     requires { ⌜ place ≤ length (now text) ⌝ }
     ensures goes { λ r. ⌜ GoesPattern (now (text .entry)) place r ⌝ }
     ensures told { λ r. ⌜ ((s : Sexp) (rest : Lexed) (n : Tally) → lexedFrom (now (text .entry)) place ≡ stream s rest → Atoms s → Patterned (now (text .entry)) rest (readPattern s n) r) ⌝ }

@@ -47,7 +47,7 @@ pub(crate) fn closing_at(text: &[u8], place: usize) -> Option<usize>
 }
 
 // The place behind the token that stands next, or the place itself where none does.
-pub fn behind(text: &[u8], place: usize) -> usize
+pub(crate) fn behind(text: &[u8], place: usize) -> usize
     requires { ⌜ place ≤ length (now text) ⌝ }
     ensures { λ r. ⌜ Behind (now (text .entry)) place r ⌝ }
 {
