@@ -124,7 +124,7 @@ told-stop text mid rest from ns now f g h (refused y) x t = t
 told-stop text mid rest from ns now f g h (made a m) x t = absurd t
 
 -- A node written behind its parts lies before them.
-pub set-puts : (ns : List Node) (i j : ℕ) (x : Node) (xs : List Node) → i < j → set (puts ns j xs) i x ≡ puts (set ns i x) j xs
+pub set-puts : {E : Type 0} (ns : List E) (i j : ℕ) (x : E) (xs : List E) → i < j → set (puts ns j xs) i x ≡ puts (set ns i x) j xs
 set-puts ns i j x [] h = refl
 set-puts ns i j x (y ∷ xs) h = set-puts (set ns j y) i (j + 1) x xs (omega arith) ∙ ap (λ ms. puts ms (j + 1) xs) (set-comm ns j i y x (λ z. omega arith))
 

@@ -22,13 +22,13 @@ use Rattle.syntax.specs.Streams.{stream}
 use Rattle.syntax.specs.declared.node.Node.{Node}
 use Rattle.syntax.specs.declared.spot.Spot.{Spot}
 
-pub puts-++ : (ns : List Node) (i : ℕ) (a b : List Node) → puts ns i (a ++ b) ≡ puts (puts ns i a) (i + length a) b
+pub puts-++ : {E : Type 0} (ns : List E) (i : ℕ) (a b : List E) → puts ns i (a ++ b) ≡ puts (puts ns i a) (i + length a) b
 puts-++ ns i [] b = ap (λ j. puts ns j b) (sym (add-zero i))
 puts-++ ns i (x ∷ a) b =
     let e : i + 1 + length a ≡ i + length (x ∷ a) = omega arith in
     puts-++ (set ns i x) (i + 1) a b ∙ ap (λ j. puts (puts (set ns i x) (i + 1) a) j b) e
 
-pub length-puts : (ns : List Node) (i : ℕ) (a : List Node) → length (puts ns i a) ≡ length ns
+pub length-puts : {E : Type 0} (ns : List E) (i : ℕ) (a : List E) → length (puts ns i a) ≡ length ns
 length-puts ns i [] = refl
 length-puts ns i (x ∷ a) = length-puts (set ns i x) (i + 1) a ∙ length-set ns i x
 

@@ -22,15 +22,19 @@ abbrev pub Goes : List ℕ → Spot → Result Spot Refused → Type 0
 Goes text spot (Ok after) = (spot .place < after .place) × (after .place ≤ length text) × (after .used ≤ 4096)
 Goes text spot (Err r) = Unit {0}
 
--- the nodes written from a number on
-abbrev pub puts : List Node → ℕ → List Node → List Node
+-- the entries written from a number on
+abbrev pub puts : {E : Type 0} → List E → ℕ → List E → List E
 puts ns i [] = ns
 puts ns i (x ∷ xs) = puts (set ns i x) (i + 1) xs
 
--- The code's answer and the nodes afterwards, for what the rules make of the same part: what is made lies in the nodes behind those
--- used before, and the text goes on with the rest.
+-- The code's answer and the entries afterwards, for what the rules make of the same part: what is made lies in the entries behind those
+-- used before, by the count of the tally that counts them, and the text goes on with the rest.
+abbrev pub ToldBy : {A E : Type 0} → (Tally → ℕ) → List ℕ → Lexed → Spot → List E → (A → List E) → Outcome A → Result Spot Refused → List E → Type 0
+ToldBy count text rest spot ns encoding (refused x) r after = r ≡ Err x
+ToldBy count text rest spot ns encoding (made a n) (Ok end) after =
+    (end .used ≡ count n) × (count n ≡ spot .used + length (encoding a)) × (lexedFrom text (end .place) ≡ rest) × (after ≡ puts ns (spot .used) (encoding a))
+ToldBy count text rest spot ns encoding (made a n) (Err x) after = ⊥
+
+-- of nodes
 abbrev pub Told : {A : Type 0} → List ℕ → Lexed → Spot → List Node → (A → List Node) → Outcome A → Result Spot Refused → List Node → Type 0
-Told text rest spot ns encoding (refused x) r after = r ≡ Err x
-Told text rest spot ns encoding (made a n) (Ok end) after =
-    (end .used ≡ n .nodes) × (n .nodes ≡ spot .used + length (encoding a)) × (lexedFrom text (end .place) ≡ rest) × (after ≡ puts ns (spot .used) (encoding a))
-Told text rest spot ns encoding (made a n) (Err x) after = ⊥
+Told text rest spot ns encoding o r after = ToldBy (λ n. n .nodes) text rest spot ns encoding o r after
