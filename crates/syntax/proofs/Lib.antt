@@ -11,6 +11,7 @@ pub mod GrammarExprs
 pub mod GrammarDefinitions
 pub mod GrammarOnly
 pub mod GrammarLaws
+pub mod ToldLaws
 pub mod PartLaws
 pub mod PatternLaws
 pub mod ReaderLaws

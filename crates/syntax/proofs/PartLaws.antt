@@ -6,7 +6,7 @@ use Prim.Native.Nat.{ℕ, suc, _+_, _<_, min}
 use native.Mathlib.Omega.{arith}
 use lib.Dec.{ltb}
 use lib.ListN.{length, set}
-use Rattle.std.proofs.shelf.Lists.{append-nil, length-append, set-comm}
+use Rattle.std.proofs.shelf.Lists.{append-nil, length-append}
 use Rattle.std.specs.declared.result.Result.{Result}
 use Rattle.std.specs.declared.result.Result.the-variants.{Ok, Err}
 use Rattle.text.specs.Scans.{refusedAt}
@@ -25,7 +25,7 @@ use Rattle.syntax.specs.declared.node.Node.{Node}
 use Rattle.syntax.specs.declared.node.NodeForm.{NodeForm}
 use Rattle.syntax.specs.declared.node.NodeForm.the-variants as form
 use Rattle.syntax.specs.declared.spot.Spot.{Spot}
-use Rattle.syntax.proofs.RowLaws.{puts-++}
+use Rattle.syntax.proofs.ToldLaws.{told-join, told-before}
 
 clash : _≡_ {A = ℕ} 0 1 → ⊥
 clash z = omega arith
@@ -103,51 +103,13 @@ pub told-then : {A B : Type 0} (text : List ℕ) (mid rest : Lexed) (from at : S
     → Told text mid from ns (f (from .used)) o (Ok at) now
     → ((m : Tally) → m .nodes ≡ at .used → lexedFrom text (at .place) ≡ mid → Told text rest at now (g (at .used)) (next m) r after)
     → Told text rest from ns (both f g (from .used)) (andThen o (λ a m. andThen (next m) (λ b m. made (a, b) m))) r after
-told-then text mid rest from at ns now after f g (refused x) next r t h = absurd (clash cc)
-told-then {A} {B} text mid rest from at ns now after f g (made a m) next r t h = go (next m) r (h m (sym (t .0)) (t .2))
-  where
-    go : (p : Outcome B) (r : Result Spot Refused) → Told text rest at now (g (at .used)) p r after → Told text rest from ns (both f g (from .used)) (andThen p (λ b m. made (a, b) m)) r after
-    go (refused x) r u = u
-    go (made b k) (Err x) u = absurd u
-    go (made b k) (Ok end) u =
-        let x = f (from .used) a in
-        let at-is : at .used ≡ from .used + length x = t .0 ∙ t .1 in (
-          u .0,
-          u .1 ∙ ap (λ j. j + length (g j b)) at-is ∙ (omega (arith, length-append x (g (from .used + length x) b))),
-          u .2,
-          u .3 ∙ ap (λ y. puts y (at .used) (g (at .used) b)) (t .3) ∙ ap (λ j. puts (puts ns (from .used) x) j (g j b)) at-is ∙ sym (puts-++ ns (from .used) x (g (from .used + length x) b)),
-        )
+told-then text mid rest from at ns now after f g o next r t h = told-join (λ n. n .nodes) text mid rest from at ns now after f g (both f g (from .used)) (λ a b. (a, b)) o next r (λ a b. refl) t h
 
-pub told-stop : {A B : Type 0} (text : List ℕ) (mid rest : Lexed) (from : Spot) (ns now : List Node) (f : ℕ → A → List Node) (g : A → Tally → Outcome B) (h : B → List Node) (o : Outcome A) (x : Refused)
-    → Told text mid from ns (f (from .used)) o (Err x) now → Told text rest from ns h (andThen o g) (Err x) now
-told-stop text mid rest from ns now f g h (refused y) x t = t
-told-stop text mid rest from ns now f g h (made a m) x t = absurd t
-
--- A node written behind its parts lies before them.
-pub set-puts : {E : Type 0} (ns : List E) (i j : ℕ) (x : E) (xs : List E) → i < j → set (puts ns j xs) i x ≡ puts (set ns i x) j xs
-set-puts ns i j x [] h = refl
-set-puts ns i j x (y ∷ xs) h = set-puts (set ns j y) i (j + 1) x xs (omega arith) ∙ ap (λ ms. puts ms (j + 1) xs) (set-comm ns j i y x (λ z. omega arith))
-
+-- a node before those of what it holds
 pub told-under : {A : Type 0} (text : List ℕ) (rest : Lexed) (from at end : Spot) (ns after : List Node) (e : ℕ → A → List Node) (o : Outcome A) (f : NodeForm) (p : ℕ)
     → at .used ≡ from .used + 1 → Told text rest at ns (e (at .used)) o (Ok end) after
     → Told text rest from ns (under f p e (from .used)) o (Ok end) (set after (from .used) (node f p (end .used)))
-told-under text rest from at end ns after e (refused x) f p is t = absurd (clash cc)
-told-under text rest from at end ns after e (made a m) f p is t =
-    let i = from .used in
-    let t0 = t .0 in
-    let size : m .nodes ≡ i + 1 + length (e (i + 1) a) = t .1 ∙ ap (λ j. j + length (e j a)) is in
-    let end-is : end .used ≡ i + 1 + length (e (i + 1) a) = t0 ∙ size in
-    let less : i < i + 1 = omega arith in (
-      t0,
-      omega arith,
-      t .2,
-      ap (λ ms. set ms i (node f p (end .used))) (t .3 ∙ ap (λ j. puts ns j (e j a)) is) ∙ set-puts ns i (i + 1) (node f p (end .used)) (e (i + 1) a) less ∙ ap (λ j. puts (set ns i (node f p j)) (i + 1) (e (i + 1) a)) end-is,
-    )
-
-pub told-refused : {A : Type 0} (text : List ℕ) (mid rest : Lexed) (at from : Spot) (ms ns after now : List Node) (f : A → List Node) (g : A → List Node) (o : Outcome A) (x : Refused)
-    → Told text mid at ms f o (Err x) after → Told text rest from ns g o (Err x) now
-told-refused text mid rest at from ms ns after now f g (refused y) x t = t
-told-refused text mid rest at from ms ns after now f g (made a m) x t = absurd t
+told-under text rest from at end ns after e o f p is t = told-before (λ n. n .nodes) text rest from at end ns after e o (node f p) is t
 
 -- The forms as rows of their parts.
 module _ (entries : ℕ) (read : Sexp → Tally → Outcome Expr) where

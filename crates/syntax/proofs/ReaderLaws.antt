@@ -45,9 +45,10 @@ use Rattle.syntax.specs.declared.spot.Spot.{Spot}
 use Rattle.syntax.proofs.AtomLaws.{oneNode, granted, denied}
 use Rattle.syntax.proofs.FormLaws.{View, is-if, is-begin, is-let, is-case, is-dup, is-apply, is-wrong, view}
 use Rattle.syntax.proofs.LookLaws.{is-atom, is-list}
-use Rattle.syntax.proofs.PartLaws.{Alike, both-refused, both-made, alike-count, told-alike, both, told-then, told-stop, told-under, told-refused, if-alike, begin-alike, apply-alike, let-alike, case-alike}
+use Rattle.syntax.proofs.PartLaws.{Alike, both-refused, both-made, alike-count, told-alike, both, told-then, told-under, if-alike, begin-alike, apply-alike, let-alike, case-alike}
 use Rattle.syntax.proofs.RowLaws.{left-none, left-some, along-start, along-end, along-part, along-next, along-refused}
 use Rattle.syntax.proofs.SurveyLaws.{survey-list}
+use Rattle.syntax.proofs.ToldLaws.{told-stop, told-refused, told-map, told-spot}
 
 clash : _≡_ {A = ℕ} 0 1 → ⊥
 clash z = omega arith
@@ -96,13 +97,6 @@ one-alike read i e n = go (read e n)
     go (refused x) = both-refused
     go (made y m) = both-made (append-nil (encode i y))
 
--- what is made, made into something else
-pub told-map : {A B : Type 0} (text : List ℕ) (rest : Lexed) (spot : Spot) (ns : List Node) (f : A → List Node) (g : B → List Node) (make : A → B) (o : Outcome A) (r : Result Spot Refused) (after : List Node)
-    → ((a : A) → f a ≡ g (make a)) → Told text rest spot ns f o r after → Told text rest spot ns g (andThen o (λ a n. made (make a) n)) r after
-told-map text rest spot ns f g make (refused x) r after same t = t
-told-map text rest spot ns f g make (made a n) (Ok end) after same t = (t .0, t .1 ∙ ap (λ (x : List Node). spot .used + length x) (same a), t .2, t .3 ∙ ap (puts ns (spot .used)) (same a))
-told-map text rest spot ns f g make (made a n) (Err x) after same t = absurd t
-
 -- A node that is claimed, before what it holds.
 module _ (text : List ℕ) (spot : Spot) (ns : List Node) (entries p : ℕ) where
   pub claim-refused : {A : Type 0} (f : A → List Node) (rest : Lexed) (n : Tally) (next : Tally → Outcome A) (x : Refused) (now : List Node) → n .nodes ≡ spot .used → claimed (spot .used) entries p ≡ Err x
@@ -129,13 +123,7 @@ module _ (text : List ℕ) (spot : Spot) (ns : List Node) (entries p : ℕ) wher
       → OnEach text spot ns (under f p (encodeEach encode)) (readRow entries p read) (Err x) now
   row-refused f read m x now c told ss shape q rest n e a u =
       claim-granted (under f p (encodeEach encode) (spot .used)) rest n (readEach read ss) m (Err x) now u c (λ v w.
-      told-refused text rest rest (record { place = spot .place; used = m }) spot ns ns now now (encodeEach encode m) (under f p (encodeEach encode) (spot .used)) (readEach read ss (oneNode n)) x (told ss shape q rest (oneNode n) e a v))
-
-pub told-spot : {A : Type 0} (text : List ℕ) (rest : Lexed) (at spot : Spot) (ns : List Node) (f : A → List Node) (o : Outcome A) (r : Result Spot Refused) (after : List Node) → at .used ≡ spot .used
-    → Told text rest at ns f o r after → Told text rest spot ns f o r after
-told-spot text rest at spot ns f (refused x) r after same t = t
-told-spot text rest at spot ns f (made a n) (Ok end) after same t = (t .0, t .1 ∙ ap (λ j. j + length (f a)) same, t .2, t .3 ∙ ap (λ j. puts ns j (f a)) same)
-told-spot text rest at spot ns f (made a n) (Err x) after same t = absurd t
+      told-refused (λ n. n .nodes) text rest rest (record { place = spot .place; used = m }) spot ns ns now now (encodeEach encode m) (under f p (encodeEach encode) (spot .used)) (readEach read ss (oneNode n)) x (told ss shape q rest (oneNode n) e a v))
 
 alike-weaken : {A B : Type 0} {R S : A → B → Type 0} {o : Outcome A} {p : Outcome B} → ((a : A) (b : B) → R a b → S a b) → Alike R o p → Alike S o p
 alike-weaken h both-refused = both-refused
@@ -176,32 +164,32 @@ module _ (text : List ℕ) (spot : Spot) (ns : List Node) (entries depth p insid
       → (ss : Sexps) (g : Form) → View ss formkind.If g → formkind.If ≡ formKind (firstHead ss) (count ss) → OnList text spot ns encode ss (readAt entries depth p g) r after
   on-if told _ _ (is-if {h = h} {a = x} {b = y} {c = z}) k shape q rest n e a u =
       told-alike text rest spot ns r after (alike-count entries p n _ _ (λ m. alike-weaken (λ xs e h. h (spot .used)) (if-alike entries (readExpr entries depth) p x y z m)))
-      (told-spot text rest (record { place = inside; used = spot .used }) spot ns (under form.If p (encodeEach encode) (spot .used)) (readRow entries p (readExpr entries depth) (cons x (cons y (cons z nil))) n) r after refl
+      (told-spot (λ n. n .nodes) text rest (record { place = inside; used = spot .used }) spot ns (under form.If p (encodeEach encode) (spot .used)) (readRow entries p (readExpr entries depth) (cons x (cons y (cons z nil))) n) r after refl
       (told (cons x (cons y (cons z nil))) shape q rest n (head-behind text (spot .place) inside h (cons x (cons y (cons z nil))) shape q rest skip e (sym (ap wordy k))) (a .1) u))
 
   pub on-begin : OnEach text (record { place = inside; used = spot .used }) ns (under form.Begin p (encodeEach encode)) (readRow entries p (readExpr entries depth)) r after
       → (ss : Sexps) (g : Form) → View ss formkind.Begin g → formkind.Begin ≡ formKind (firstHead ss) (count ss) → OnList text spot ns encode ss (readAt entries depth p g) r after
   on-begin told _ _ (is-begin {h = h} {e = x} {es = es}) k shape q rest n e a u =
       told-alike text rest spot ns r after (alike-count entries p n _ _ (λ m. alike-weaken (λ xs e h. h (spot .used)) (begin-alike entries (readExpr entries depth) p x es m)))
-      (told-spot text rest (record { place = inside; used = spot .used }) spot ns (under form.Begin p (encodeEach encode) (spot .used)) (readRow entries p (readExpr entries depth) (cons x es) n) r after refl
+      (told-spot (λ n. n .nodes) text rest (record { place = inside; used = spot .used }) spot ns (under form.Begin p (encodeEach encode) (spot .used)) (readRow entries p (readExpr entries depth) (cons x es) n) r after refl
       (told (cons x es) shape q rest n (head-behind text (spot .place) inside h (cons x es) shape q rest skip e (sym (ap wordy k))) (a .1) u))
 
   pub on-let : ((bs e : Sexp) → OnList text (record { place = inside; used = spot .used }) ns encode (cons bs (cons e nil)) (readAt entries depth p (let-form bs e)) r after)
       → (ss : Sexps) (g : Form) → View ss formkind.Let g → formkind.Let ≡ formKind (firstHead ss) (count ss) → OnList text spot ns encode ss (readAt entries depth p g) r after
   on-let told _ _ (is-let {h = h} {bs = x} {e = y}) k shape q rest n e a u =
-      told-spot text rest (record { place = inside; used = spot .used }) spot ns _ _ r after refl
+      told-spot (λ n. n .nodes) text rest (record { place = inside; used = spot .used }) spot ns _ _ r after refl
       (told x y shape q rest n (head-behind text (spot .place) inside h (cons x (cons y nil)) shape q rest skip e (sym (ap wordy k))) (a .1) u)
 
   pub on-case : ((e b : Sexp) (bs : Sexps) → OnList text (record { place = inside; used = spot .used }) ns encode (cons e (cons b bs)) (readAt entries depth p (case-form e b bs)) r after)
       → (ss : Sexps) (g : Form) → View ss formkind.Case g → formkind.Case ≡ formKind (firstHead ss) (count ss) → OnList text spot ns encode ss (readAt entries depth p g) r after
   on-case told _ _ (is-case {h = h} {e = x} {b = y} {bs = zs}) k shape q rest n e a u =
-      told-spot text rest (record { place = inside; used = spot .used }) spot ns _ _ r after refl
+      told-spot (λ n. n .nodes) text rest (record { place = inside; used = spot .used }) spot ns _ _ r after refl
       (told x y zs shape q rest n (head-behind text (spot .place) inside h (cons x (cons y zs)) shape q rest skip e (sym (ap wordy k))) (a .1) u)
 
   pub on-dup : ((d : ℕ) (x : Sexp) → OnList text (record { place = inside; used = spot .used }) ns encode (cons x nil) (readAt entries d p (dup-form x)) r after)
       → (ss : Sexps) (g : Form) → View ss formkind.Dup g → formkind.Dup ≡ formKind (firstHead ss) (count ss) → OnList text spot ns encode ss (readAt entries depth p g) r after
   on-dup told _ _ (is-dup {h = h} {x = x}) k shape q rest n e a u =
-      told-spot text rest (record { place = inside; used = spot .used }) spot ns _ _ r after refl
+      told-spot (λ n. n .nodes) text rest (record { place = inside; used = spot .used }) spot ns _ _ r after refl
       (told depth x shape q rest n (head-behind text (spot .place) inside h (cons x nil) shape q rest skip e (sym (ap wordy k))) (a .1) u)
 
   pub on-apply : OnEach text spot ns (under form.Apply p (encodeEach encode)) (readRow entries p (readExpr entries depth)) r after
@@ -223,7 +211,7 @@ expr-atom text spot ns entries depth s rest n e k w p after r now seen b t =
     let is = is-atom k p w (lexedFrom text after) s rest b (sym (seen .follows) ∙ e) in
     subst (λ s. Told text rest spot ns (encode (spot .used)) (readExpr entries depth s n) r now) (sym (is .0))
     (subst (λ l. Told text l spot ns (encode (spot .used)) (exprAtom entries p (atomExpr entries k p w) n) r now) (is .1)
-    (told-spot text (lexedFrom text after) (record { place = p; used = spot .used }) spot ns (encode (spot .used)) (exprAtom entries p (atomExpr entries k p w) n) r now refl t))
+    (told-spot (λ n. n .nodes) text (lexedFrom text after) (record { place = p; used = spot .used }) spot ns (encode (spot .used)) (exprAtom entries p (atomExpr entries k p w) n) r now refl t))
 
 expr-depth : (entries d : ℕ) (shape : Bracket) (p : ℕ) (ss : Sexps) (q : ℕ) (n : Tally) → 0 < d → readExpr entries d (list shape p ss q) n ≡ readAt entries (d - 1) p (formOf ss) n
 expr-depth entries zero shape p ss q n h = absurd (clash (omega arith))
@@ -241,7 +229,7 @@ module _ (text : List ℕ) (spot : Spot) (ns : List Node) (k : Bracket) (w : Lis
   expr-list entries depth r now d told s rest n e a u =
       let l = is-list k p w (lexedFrom text inside) s rest a (sym (seen .follows) ∙ e) in
       subst (λ o. Told text rest spot ns (encode (spot .used)) o r now) (sym (ap (λ s. readExpr entries depth s n) (l .is) ∙ expr-depth entries depth (l .shape) p (l .parts) (l .end) n d))
-      (told-spot text rest (record { place = inside; used = spot .used }) spot ns (encode (spot .used)) (readAt entries (depth - 1) p (formOf (l .parts)) n) r now refl
+      (told-spot (λ n. n .nodes) text rest (record { place = inside; used = spot .used }) spot ns (encode (spot .used)) (readAt entries (depth - 1) p (formOf (l .parts)) n) r now refl
       (told (l .parts) (l .shape) (l .end) rest n (l .inside) (l .atoms) u))
 
   -- a list of two parts, or of another number
@@ -268,7 +256,7 @@ module _ (text : List ℕ) (spot : Spot) (ns : List Node) (k : Bracket) (w : Lis
         let m = counted (l .parts) (l .shape) (l .end) rest (l .inside) (l .atoms) in
         let t = count-two (l .parts) (sym m ∙ c) in
         subst (λ o. Told text rest spot ns (encoding (spot .used)) o r now) (sym (ap (λ s. read s n) (l .is) ∙ reads (l .shape) (l .parts) (l .end) n ∙ ap (λ ss. of (twoOf ss) n) (t .1 .1)))
-        (told-spot text rest (record { place = inside; used = spot .used }) spot ns (encoding (spot .used)) (of (two (t .0) (t .1 .0)) n) r now refl
+        (told-spot (λ n. n .nodes) text rest (record { place = inside; used = spot .used }) spot ns (encoding (spot .used)) (of (two (t .0) (t .1 .0)) n) r now refl
         (told (t .0) (t .1 .0) (l .shape) (l .end) rest n (l .inside ∙ ap (λ ss. closedBy ss (l .shape) (l .end) rest) (t .1 .1)) (subst AllAtoms (t .1 .1) (l .atoms)) u))
 
     pub pair-wrong : (x : Refused) (now : List Node) → (parts ≡ 2 → ⊥) → ((n : Tally) → of not-two n ≡ refused (refusedAt refusal.Form p)) → x ≡ refusedAt refusal.Form p → OnPart text spot ns encoding read (Err x) now
@@ -342,7 +330,7 @@ module _ (text : List ℕ) (spot : Spot) (ns : List Node) (entries p m : ℕ) (r
         let t = facts i k refl in
         let one = told-alike text rest at ns (Ok end) now (one-alike read m e k) (told (cons e nil) shape q rest k (t .0) a (ap (λ n. n .nodes) keeps ∙ v)) in
         let two = told-under text rest spot at end ns now encode (read e k) (form-of i) p is-m one in
-        let three = told-map text rest spot ns (under (form-of i) p encode (spot .used)) (encoding (spot .used)) (make i) (read e k) (Ok end) (set now (spot .used) (node (form-of i) p (end .used))) (lies i) two in
+        let three = told-map (λ n. n .nodes) text rest spot ns (under (form-of i) p encode (spot .used)) (encoding (spot .used)) (make i) (read e k) (Ok end) (set now (spot .used) (node (form-of i) p (end .used))) (lies i) two in
         subst (λ f. Told text rest spot ns (encoding (spot .used)) (andThen (read e k) (λ y n. made (make i y) n)) (Ok end) (set now (spot .used) (node f p (end .used)))) (sym (t .1)) three
 
     headed-refused : (o : Outcome H) → Keeps n o → (x : Refused) (now : List Node)
@@ -353,8 +341,8 @@ module _ (text : List ℕ) (spot : Spot) (ns : List Node) (entries p m : ℕ) (r
     headed-refused (made i k) keeps x now facts never told =
         let at : Spot = record { place = next; used = m } in
         let one = told-alike text rest at ns (Err x) now (one-alike read m e k) (told (cons e nil) shape q rest k (facts i k refl) a (ap (λ n. n .nodes) keeps ∙ v)) in
-        told-refused text rest rest at spot ns ns now now (encoding (spot .used)) (encoding (spot .used)) (andThen (read e k) (λ y n. made (make i y) n)) x
-        (told-stop text rest rest at ns now encode (λ y n. made (make i y) n) (encoding (spot .used)) (read e k) x one)
+        told-refused (λ n. n .nodes) text rest rest at spot ns ns now now (encoding (spot .used)) (encoding (spot .used)) (andThen (read e k) (λ y n. made (make i y) n)) x
+        (told-stop (λ n. n .nodes) text rest rest at ns now encode (λ y n. made (make i y) n) (encoding (spot .used)) (read e k) x one)
 
   -- bindings
   abbrev Names : Result NameAt Refused → Type 0
@@ -504,7 +492,7 @@ module _ (text : List ℕ) (spot : Spot) (ns : List Node) (entries p m : ℕ) (r
   case-refused middle y now after first others e b bs shape q rest n E a u =
       claim-granted text spot ns entries p (encode (spot .used)) rest n (λ n. andThen (read e n) (then-case b bs)) m (Err y) after u c (λ v w.
       told-alike text rest spot ns (Err y) after (alike-weaken (λ x y h. h (spot .used)) (case-alike entries read p e b bs (oneNode n)))
-      (told-refused text rest rest (record { place = spot .place; used = m }) spot ns ns after after (both encode (encodeEach encode-branch) m) (under form.Case p (both encode (encodeEach encode-branch)) (spot .used)) (andThen (read e (oneNode n)) (λ x n. andThen (readEach (readBranch entries read) (cons b bs) n) (λ ys n. made (x, ys) n))) y
+      (told-refused (λ n. n .nodes) text rest rest (record { place = spot .place; used = m }) spot ns ns after after (both encode (encodeEach encode-branch) m) (under form.Case p (both encode (encodeEach encode-branch)) (spot .used)) (andThen (read e (oneNode n)) (λ x n. andThen (readEach (readBranch entries read) (cons b bs) n) (λ ys n. made (x, ys) n))) y
       (told-then text (closedBy (cons b bs) shape q rest) rest (record { place = spot .place; used = m }) middle ns now after encode (encodeEach encode-branch) (read e (oneNode n)) (readEach (readBranch entries read) (cons b bs)) (Err y)
       (first e (closedBy (cons b bs) shape q rest) (oneNode n) E (a .0) v) (λ k used l. others (cons b bs) shape q rest k l (a .1) used))))
 
@@ -512,8 +500,8 @@ module _ (text : List ℕ) (spot : Spot) (ns : List Node) (entries p m : ℕ) (r
       → (e b : Sexp) (bs : Sexps) → OnList text spot ns encode (cons e (cons b bs)) (readForm entries read p (case-form e b bs)) (Err y) now
   case-stopped y now first e b bs shape q rest n E a u =
       claim-granted text spot ns entries p (encode (spot .used)) rest n (λ n. andThen (read e n) (then-case b bs)) m (Err y) now u c (λ v w.
-      told-refused text rest rest (record { place = spot .place; used = m }) spot ns ns now now (encode m) (encode (spot .used)) (andThen (read e (oneNode n)) (then-case b bs)) y
-      (told-stop text (closedBy (cons b bs) shape q rest) rest (record { place = spot .place; used = m }) ns now encode (then-case b bs) (encode m) (read e (oneNode n)) y (first e (closedBy (cons b bs) shape q rest) (oneNode n) E (a .0) v)))
+      told-refused (λ n. n .nodes) text rest rest (record { place = spot .place; used = m }) spot ns ns now now (encode m) (encode (spot .used)) (andThen (read e (oneNode n)) (then-case b bs)) y
+      (told-stop (λ n. n .nodes) text (closedBy (cons b bs) shape q rest) rest (record { place = spot .place; used = m }) ns now encode (then-case b bs) (encode m) (read e (oneNode n)) y (first e (closedBy (cons b bs) shape q rest) (oneNode n) E (a .0) v)))
 
   -- let
   module _ (k : Bracket) (b : List ℕ) (o inside : ℕ) (seen : Seen text (spot .place) (kind.Open k) b o inside) where
@@ -545,7 +533,7 @@ module _ (text : List ℕ) (spot : Spot) (ns : List Node) (entries p m : ℕ) (r
         claim-granted text spot ns entries p (encode (spot .used)) rest n (λ n. andThen (readBindingList entries read bs n) (then-let e)) m (Err y) after u c (λ v w.
         let-list (Err y) after (encode (spot .used)) bs e shape q rest (oneNode n) E (a .0) (λ parts shape′ q′ l atoms.
         told-alike text rest spot ns (Err y) after (alike-weaken (λ x y h. h (spot .used)) (let-alike entries read p parts e (oneNode n)))
-        (told-refused text rest rest begin spot ns ns after after (both (encodeEach encode-binding) (encodeEach encode) m) (under form.Let p (both (encodeEach encode-binding) (encodeEach encode)) (spot .used)) (andThen (readEach (readBinding entries read) parts (oneNode n)) (λ xs n. andThen (readEach read (cons e nil) n) (λ ys n. made (xs, ys) n))) y
+        (told-refused (λ n. n .nodes) text rest rest begin spot ns ns after after (both (encodeEach encode-binding) (encodeEach encode) m) (under form.Let p (both (encodeEach encode-binding) (encodeEach encode)) (spot .used)) (andThen (readEach (readBinding entries read) parts (oneNode n)) (λ xs n. andThen (readEach read (cons e nil) n) (λ ys n. made (xs, ys) n))) y
         (told-then text (closedBy (cons e nil) shape q rest) rest begin middle ns now after (encodeEach encode-binding) (encodeEach encode) (readEach (readBinding entries read) parts (oneNode n)) (readEach read (cons e nil)) (Err y)
         (first parts shape′ q′ (closedBy (cons e nil) shape q rest) (oneNode n) l atoms v) (λ k used l. body (cons e nil) shape q rest k l (a .1) used)))))
 
@@ -555,8 +543,8 @@ module _ (text : List ℕ) (spot : Spot) (ns : List Node) (entries p m : ℕ) (r
         claim-granted text spot ns entries p (encode (spot .used)) rest n (λ n. andThen (readBindingList entries read bs n) (then-let e)) m (Err y) now u c (λ v w.
         let-list (Err y) now (encode (spot .used)) bs e shape q rest (oneNode n) E (a .0) (λ parts shape′ q′ l atoms.
         told-alike text rest spot ns (Err y) now (alike-weaken (λ x y h. h (spot .used)) (let-alike entries read p parts e (oneNode n)))
-        (told-refused text rest rest begin spot ns ns now now (λ x. []) (under form.Let p (both (encodeEach encode-binding) (encodeEach encode)) (spot .used)) (andThen (readEach (readBinding entries read) parts (oneNode n)) (λ xs n. andThen (readEach read (cons e nil) n) (λ ys n. made (xs, ys) n))) y
-        (told-stop text (closedBy (cons e nil) shape q rest) rest begin ns now (encodeEach encode-binding) (λ xs n. andThen (readEach read (cons e nil) n) (λ ys n. made (xs, ys) n)) (λ x. []) (readEach (readBinding entries read) parts (oneNode n)) y
+        (told-refused (λ n. n .nodes) text rest rest begin spot ns ns now now (λ x. []) (under form.Let p (both (encodeEach encode-binding) (encodeEach encode)) (spot .used)) (andThen (readEach (readBinding entries read) parts (oneNode n)) (λ xs n. andThen (readEach read (cons e nil) n) (λ ys n. made (xs, ys) n))) y
+        (told-stop (λ n. n .nodes) text (closedBy (cons e nil) shape q rest) rest begin ns now (encodeEach encode-binding) (λ xs n. andThen (readEach read (cons e nil) n) (λ ys n. made (xs, ys) n)) (λ x. []) (readEach (readBinding entries read) parts (oneNode n)) y
         (first parts shape′ q′ (closedBy (cons e nil) shape q rest) (oneNode n) l atoms v)))))
 
   pub let-atom : (t : TokenKind) (b : List ℕ) (o after : ℕ) (y : Refused) (now : List Node) → Seen text (spot .place) t b o after → NoBracket t → y ≡ refusedAt refusal.Form o
