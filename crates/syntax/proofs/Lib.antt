@@ -15,3 +15,4 @@ pub mod ToldLaws
 pub mod PartLaws
 pub mod PatternLaws
 pub mod ReaderLaws
+pub mod TypeLaws

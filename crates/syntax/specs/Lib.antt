@@ -15,3 +15,5 @@ pub mod Progress
 pub mod Rows
 pub mod Parts
 pub mod Patterns
+pub mod TypeEncoding
+pub mod TypeParts

@@ -9,7 +9,7 @@ use Rattle.text.specs.Tokens.{Lexed, lexedFrom}
 use Rattle.text.specs.declared.bracket.Bracket.{Bracket}
 use Rattle.text.specs.declared.refusal.Refused.{Refused}
 use Rattle.syntax.specs.Forms.{Form}
-use Rattle.syntax.specs.Progress.{Told}
+use Rattle.syntax.specs.Progress.{ToldBy}
 use Rattle.syntax.specs.Reading.{Tally, Outcome, countNode, Binding, Branch, readExpr, readForm}
 use Rattle.syntax.specs.Rows.{closedBy, readEach}
 use Rattle.syntax.specs.Sexps.{Sexp, Sexps, Atoms, AllAtoms}
@@ -31,15 +31,22 @@ abbrev pub encode-branch : ℕ → Branch → List Node
 encode-branch i b = under (form.Branch (pattern-place (b .pattern))) (b .place) encode i (b .expr)
 
 -- Reading from a spot on is told for whatever stands there: for one part, and for parts up to the bracket that closes their list.
+abbrev pub OnPartBy : {A E : Type 0} → (Tally → ℕ) → List ℕ → Spot → List E → (ℕ → A → List E) → (Sexp → Tally → Outcome A) → Result Spot Refused → List E → Type 0
+OnPartBy count text spot ns encoding read r after =
+    (s : Sexp) (rest : Lexed) (n : Tally) → lexedFrom text (spot .place) ≡ stream s rest → Atoms s → count n ≡ spot .used
+    → ToldBy count text rest spot ns (encoding (spot .used)) (read s n) r after
+
+abbrev pub OnListBy : {A E : Type 0} → (Tally → ℕ) → List ℕ → Spot → List E → (ℕ → A → List E) → Sexps → (Tally → Outcome A) → Result Spot Refused → List E → Type 0
+OnListBy count text spot ns encoding ss read r after =
+    (shape : Bracket) (q : ℕ) (rest : Lexed) (n : Tally) → lexedFrom text (spot .place) ≡ closedBy ss shape q rest → AllAtoms ss → count n ≡ spot .used
+    → ToldBy count text rest spot ns (encoding (spot .used)) (read n) r after
+
+-- into the node list
 abbrev pub OnPart : {A : Type 0} → List ℕ → Spot → List Node → (ℕ → A → List Node) → (Sexp → Tally → Outcome A) → Result Spot Refused → List Node → Type 0
-OnPart text spot ns encoding read r after =
-    (s : Sexp) (rest : Lexed) (n : Tally) → lexedFrom text (spot .place) ≡ stream s rest → Atoms s → n .nodes ≡ spot .used
-    → Told text rest spot ns (encoding (spot .used)) (read s n) r after
+OnPart text spot ns encoding read r after = OnPartBy (λ n. n .nodes) text spot ns encoding read r after
 
 abbrev pub OnList : {A : Type 0} → List ℕ → Spot → List Node → (ℕ → A → List Node) → Sexps → (Tally → Outcome A) → Result Spot Refused → List Node → Type 0
-OnList text spot ns encoding ss read r after =
-    (shape : Bracket) (q : ℕ) (rest : Lexed) (n : Tally) → lexedFrom text (spot .place) ≡ closedBy ss shape q rest → AllAtoms ss → n .nodes ≡ spot .used
-    → Told text rest spot ns (encoding (spot .used)) (read n) r after
+OnList text spot ns encoding ss read r after = OnListBy (λ n. n .nodes) text spot ns encoding ss read r after
 
 -- the parts of a list, each by itself
 abbrev pub OnEach : {A : Type 0} → List ℕ → Spot → List Node → (ℕ → A → List Node) → (Sexps → Tally → Outcome A) → Result Spot Refused → List Node → Type 0
