@@ -1,8 +1,8 @@
 -- Forms as rows of parts: the same outcomes, the same nodes.
-use mathlib.Core.Path.{_≡_, refl, sym, ap, _∙_}
+use mathlib.Core.Path.{_≡_, refl, ap, _∙_}
 use mathlib.Core.Bool.{Bool, true, false, cond}
 use mathlib.Core.List.{List, [], _∷_, _++_}
-use Prim.Native.Nat.{ℕ, suc, _+_, _<_, min}
+use Prim.Native.Nat.{ℕ, suc, _+_, min}
 use native.Mathlib.Omega.{arith}
 use lib.Dec.{ltb}
 use lib.ListN.{length, set}
@@ -26,9 +26,6 @@ use Rattle.syntax.specs.declared.node.NodeForm.{NodeForm}
 use Rattle.syntax.specs.declared.node.NodeForm.the-variants as form
 use Rattle.syntax.specs.declared.spot.Spot.{Spot}
 use Rattle.syntax.proofs.ToldLaws.{told-join, told-before}
-
-clash : _≡_ {A = ℕ} 0 1 → ⊥
-clash z = omega arith
 
 -- as many nodes as are counted
 mutual

@@ -27,7 +27,7 @@ use Rattle.syntax.specs.Kinds.{formKind}
 use Rattle.syntax.specs.Looks.{Seen, NotClosing, Closes, Named, Behind}
 use Rattle.syntax.specs.Parts.{under, encode-binding, encode-branch, OnPart, OnList, OnEach, readRow, readAt}
 use Rattle.syntax.specs.Patterns.{Patterned}
-use Rattle.syntax.specs.Progress.{Goes, puts, Told}
+use Rattle.syntax.specs.Progress.{Goes, Told}
 use Rattle.syntax.specs.Reading.{Tally, Outcome, refused, made, andThen, countNode, Binding, Branch, exprAtom, atomExpr, readName, readPart, readParts, readPattern, readBindings, readBindingList, readBranches, readExpr, readForm, bindingOf, readBinding, branchOf, readBranch}
 use Rattle.syntax.specs.Rows.{closedBy, readEach, encodeEach, Along}
 use Rattle.syntax.specs.Sexps.{Sexp, atom, list, Sexps, nil, cons, Atoms, AllAtoms}

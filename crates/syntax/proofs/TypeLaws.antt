@@ -29,7 +29,7 @@ use Rattle.syntax.specs.Looks.{Seen, NotClosing, Closes, Behind}
 use Rattle.syntax.specs.Progress.{puts}
 use Rattle.syntax.specs.Reading.{Tally, Outcome, refused, made, andThen, wrong, overLimit, countType, keywordType, atomType, typeAtom, isSome, isTwo, typeShaped, readTypes, readTypeList, readArrow, readType}
 use Rattle.syntax.specs.Rows.{closedBy}
-use Rattle.syntax.specs.Sexps.{Sexp, atom, list, Sexps, nil, cons, place, Atoms, AllAtoms}
+use Rattle.syntax.specs.Sexps.{Sexp, atom, list, Sexps, nil, cons, place, AllAtoms}
 use Rattle.syntax.specs.Streams.{stream, count, firstHead}
 use Rattle.syntax.specs.Surveys.{nothing, surveyed}
 use Rattle.syntax.specs.Trees.{TypeExpr, int-type, bool-type, sym-type, unit-type, datatype, function-type, TypeExprs, no-types, and-type}
@@ -89,7 +89,7 @@ no-keyword : (k : Keyword) (p : ℕ) → keywordTypeForm k ≡ None → keywordT
 no-keyword k p e = go (isKey k keyword.Int) refl (isKey k keyword.Bool) refl (isKey k keyword.Sym) refl (isKey k keyword.Unit) refl e
   where
     go : (a : Bool) → isKey k keyword.Int ≡ a → (b : Bool) → isKey k keyword.Bool ≡ b → (c : Bool) → isKey k keyword.Sym ≡ c → (d : Bool) → isKey k keyword.Unit ≡ d
-      → _≡_ {A = Option TypeForm} (cond a (Some form.Int) (cond b (Some form.Bool) (cond c (Some form.Sym) (cond d (Some form.Unit) None)))) None → keywordType k p ≡ None
+        → _≡_ {A = Option TypeForm} (cond a (Some form.Int) (cond b (Some form.Bool) (cond c (Some form.Sym) (cond d (Some form.Unit) None)))) None → keywordType k p ≡ None
     go true t b u c v d w e = absurd (clash cc)
     go false t true u c v d w e = absurd (clash cc)
     go false t false u true v d w e = absurd (clash cc)
@@ -111,7 +111,7 @@ some-type kind.Name p n w f e = refl
 some-type (kind.Keyword k) p n w f e = go (isKey k keyword.Int) (isKey k keyword.Bool) (isKey k keyword.Sym) (isKey k keyword.Unit) e
   where
     go : (a b c d : Bool) → _≡_ {A = Option TypeForm} (cond a (Some form.Int) (cond b (Some form.Bool) (cond c (Some form.Sym) (cond d (Some form.Unit) None)))) (Some f)
-      → isSome (cond a (Some (int-type p)) (cond b (Some (bool-type p)) (cond c (Some (sym-type p)) (cond d (Some (unit-type p)) None)))) ≡ true
+        → isSome (cond a (Some (int-type p)) (cond b (Some (bool-type p)) (cond c (Some (sym-type p)) (cond d (Some (unit-type p)) None)))) ≡ true
     go true b c d e = refl
     go false true c d e = refl
     go false false true d e = refl
@@ -129,7 +129,7 @@ a-keyword : (k : Keyword) (p : ℕ) (w : List ℕ) (f : TypeForm) → keywordTyp
 a-keyword k p w f e = go (isKey k keyword.Int) refl (isKey k keyword.Bool) refl (isKey k keyword.Sym) refl (isKey k keyword.Unit) refl e
   where
     go : (a : Bool) → isKey k keyword.Int ≡ a → (b : Bool) → isKey k keyword.Bool ≡ b → (c : Bool) → isKey k keyword.Sym ≡ c → (d : Bool) → isKey k keyword.Unit ≡ d
-      → _≡_ {A = Option TypeForm} (cond a (Some form.Int) (cond b (Some form.Bool) (cond c (Some form.Sym) (cond d (Some form.Unit) None)))) (Some f) → Leaf (kind.Keyword k) p w f
+        → _≡_ {A = Option TypeForm} (cond a (Some form.Int) (cond b (Some form.Bool) (cond c (Some form.Sym) (cond d (Some form.Unit) None)))) (Some f) → Leaf (kind.Keyword k) p w f
     go true t b u c v d x e = let q : form.Int ≡ f = cc in record { type = int-type p; is = rw t refl; lies = λ i. ap (λ g. typeNode g p (i + 1) ∷ []) q }
     go false t true u c v d x e = let q : form.Bool ≡ f = cc in record { type = bool-type p; is = rw (t, u) refl; lies = λ i. ap (λ g. typeNode g p (i + 1) ∷ []) q }
     go false t false u true v d x e = let q : form.Sym ≡ f = cc in record { type = sym-type p; is = rw (t, u, v) refl; lies = λ i. ap (λ g. typeNode g p (i + 1) ∷ []) q }
@@ -161,15 +161,15 @@ module _ (text w : List ℕ) (k : TokenKind) (place after used : ℕ) (f : TypeF
       subst (λ o. ToldType text rest (record { place = place; used = used }) ts (encodeType used) o (Err x) ts) (sym (ap (λ o. typeAtom place o n) (l .is) ∙ d)) refl
 
   pub single-granted : (m : ℕ) → lexedFrom text after ≡ rest → claimedType used place ≡ Ok m
-    → ToldType text rest (record { place = place; used = used }) ts (encodeType used) (typeAtom place (atomType k place w) n) (Ok (record { place = after; used = m })) (set ts used (typeNode f place m))
+      → ToldType text rest (record { place = place; used = used }) ts (encodeType used) (typeAtom place (atomType k place w) n) (Ok (record { place = after; used = m })) (set ts used (typeNode f place m))
   single-granted m there e =
       let l = leaf in
       let g = granted used place m n (λ n. made (l .type) n) same e in
       let m-is = g .0 in
       let lies : encodeType used (l .type) ≡ typeNode f place (used + 1) ∷ [] = l .lies used in
       subst (λ o. ToldType text rest (record { place = place; used = used }) ts (encodeType used) o (Ok (record { place = after; used = m })) (set ts used (typeNode f place m)))
-        (sym (ap (λ o. typeAtom place o n) (l .is) ∙ g .1))
-        (omega arith, omega (arith, ap length lies), there, ap (λ p. set ts used (typeNode f place p)) m-is ∙ sym (ap (puts ts used) lies))
+      (sym (ap (λ o. typeAtom place o n) (l .is) ∙ g .1))
+      (omega arith, omega (arith, ap length lies), there, ap (λ p. set ts used (typeNode f place p)) m-is ∙ sym (ap (puts ts used) lies))
 
 -- A function type has a word at its head, and two parts behind it.
 data View : Sexps → Bool → Two → Type 0 where
@@ -256,8 +256,8 @@ module _ (text : List ℕ) (read : Sexp → Tally → Outcome TypeExpr) (at : Sp
         let atoms = subst AllAtoms (l .1 .1) a in
         subst (λ o. ToldType text rest at now (encodeTypes (at .used)) o r after) (sym (ap (λ ss. readTypes read k ss n) (l .1 .1) ∙ cond-true (ltb k 6) _ _ (lt-ltb k 6 few)))
         (told-join counted text (closedBy left shape q rest) rest at end now then after encodeType encodeTypes (encodeTypes (at .used)) and-type (read s n) (readTypes read (k + 1) left) r
-          (λ t ts. ap (λ j. encodeType (at .used) t ++ encodeTypes (at .used + j) ts) (length-type (at .used) t))
-          (first s (closedBy left shape q rest) n (e ∙ ap (λ ss. closedBy ss shape q rest) (l .1 .1)) (atoms .0) u) (λ m used follows. others left shape q rest m follows (atoms .1) used))
+        (λ t ts. ap (λ j. encodeType (at .used) t ++ encodeTypes (at .used + j) ts) (length-type (at .used) t))
+        (first s (closedBy left shape q rest) n (e ∙ ap (λ ss. closedBy ss shape q rest) (l .1 .1)) (atoms .0) u) (λ m used follows. others left shape q rest m follows (atoms .1) used))
 
     pub types-stop : k < 6 → (x : Refused) (then : List TypeNode) → OnType text at now encodeType read (Err x) then → OnTypes text at now encodeTypes (readTypes read k) (Err x) then
     types-stop few x then first ss shape q rest n e a u =
@@ -267,7 +267,7 @@ module _ (text : List ℕ) (read : Sexp → Tally → Outcome TypeExpr) (at : Sp
         let atoms = subst AllAtoms (l .1 .1) a in
         subst (λ o. ToldType text rest at now (encodeTypes (at .used)) o (Err x) then) (sym (ap (λ ss. readTypes read k ss n) (l .1 .1) ∙ cond-true (ltb k 6) _ _ (lt-ltb k 6 few)))
         (told-stop counted text (closedBy left shape q rest) rest at now then encodeType (λ t n. andThen (readTypes read (k + 1) left n) (λ ts n. made (and-type t ts) n)) (encodeTypes (at .used)) (read s n) x
-          (first s (closedBy left shape q rest) n (e ∙ ap (λ ss. closedBy ss shape q rest) (l .1 .1)) (atoms .0) u))
+        (first s (closedBy left shape q rest) n (e ∙ ap (λ ss. closedBy ss shape q rest) (l .1 .1)) (atoms .0) u))
 
     pub types-seventh : 6 ≤ k → (x : Refused) (then : List TypeNode) → Seventh text (at .place) x → OnTypes text at now encodeTypes (readTypes read k) (Err x) then
     types-seventh many x then seventh ss shape q rest n e a u =
@@ -324,10 +324,6 @@ pair-then {A} {B} {C} make (made a m) next = go (next m)
 module _ (text : List ℕ) (spot : Spot) (ts : List TypeNode) (p : ℕ) (read : Sexp → Tally → Outcome TypeExpr) where
   abbrev then-type : Sexp → TypeExprs → Tally → Outcome TypeExpr
   then-type t xs n = andThen (read t n) (λ x n. made (function-type p xs x) n)
-
-  pub arrow-denied : (x : Refused) (now : List TypeNode) → claimedType (spot .used) p ≡ Err x → (ps t : Sexp) → OnTypeList text spot ts encodeType (cons ps (cons t nil)) (readArrow read p (two ps t)) (Err x) now
-  arrow-denied x now c ps t shape q rest n e a u =
-      subst (λ o. ToldType text rest spot ts (encodeType (spot .used)) o (Err x) now) (sym (denied (spot .used) p x n (λ n. andThen (readTypeList read ps n) (then-type t)) u c)) refl
 
   module _ (m : ℕ) (c : claimedType (spot .used) p ≡ Ok m) where
     abbrev begin : Spot
@@ -421,7 +417,7 @@ module _ (text : List ℕ) (spot : Spot) (ts : List TypeNode) (k : Bracket) (w :
         let l = is-list k p w (lexedFrom text inside) s rest a (sym (seen .follows) ∙ e) in
         let v = view-of text inside survey b (l .parts) (l .shape) (l .end) rest surveyed-is b-is (l .inside) (l .atoms) in
         subst (λ o. ToldType text rest spot ts (encodeType (spot .used)) o (Err x) now)
-          (sym (ap (λ s. readType depth s n) (l .is) ∙ type-depth depth (l .shape) p (l .parts) (l .end) n deep ∙ ap (λ t. readArrow (readType (depth - 1)) p t n) (view-false (l .parts) b (arrowOf (l .parts)) is-b v))) (ap Err is-x)
+        (sym (ap (λ s. readType depth s n) (l .is) ∙ type-depth depth (l .shape) p (l .parts) (l .end) n deep ∙ ap (λ t. readArrow (readType (depth - 1)) p t n) (view-false (l .parts) b (arrowOf (l .parts)) is-b v))) (ap Err is-x)
 
     pub type-arrow : (after : ℕ) (r : Result Spot Refused) (now : List TypeNode) → b ≡ true → Behind text inside after
         → ((ps t : Sexp) → OnTypeList text (record { place = after; used = spot .used }) ts encodeType (cons ps (cons t nil)) (readArrow (readType (depth - 1)) p (two ps t)) r now)

@@ -1,4 +1,4 @@
--- What reading a part of a text leaves: where it stands then, and the nodes that it wrote.
+-- What reading a part of a text leaves: where it stands then, and the entries that it wrote into a table.
 use mathlib.Core.Path.{_≡_}
 use mathlib.Core.List.{List, [], _∷_}
 use Prim.Native.Nat.{ℕ, _+_, _≤_, _<_}
@@ -17,7 +17,7 @@ pub record Ready (text : List ℕ) (spot : Spot) : Type 0 where
   pub within : spot .place ≤ length text
   pub few : spot .used ≤ 4096
 
--- reading moves forward, within the text and the limit of nodes
+-- reading moves forward, within the text and the greatest limit of a table, that of nodes
 abbrev pub Goes : List ℕ → Spot → Result Spot Refused → Type 0
 Goes text spot (Ok after) = (spot .place < after .place) × (after .place ≤ length text) × (after .used ≤ 4096)
 Goes text spot (Err r) = Unit {0}

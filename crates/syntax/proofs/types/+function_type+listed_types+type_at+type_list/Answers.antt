@@ -1,6 +1,5 @@
-use mathlib.Core.Path.{_≡_, refl, sym, ap, _∙_}
+use mathlib.Core.Path.{sym}
 use native.Mathlib.Omega.{arith}
-use lib.ListN.{length}
 use Rattle.syntax.specs.Reading.{readType}
 use Rattle.syntax.proofs.LookLaws.{name-close, name-end}
 use Rattle.syntax.proofs.ReaderLaws.{goes-back, goes-single}

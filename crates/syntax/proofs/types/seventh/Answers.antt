@@ -9,13 +9,13 @@ pub returns-in-Some : need.returns-in-Some
 returns-in-Some c =
     let sees = c .in-Atom .ensures tt in
     seventh-atom (c .args .text .now) (c .args .place) (c .in-Atom .kind) (sees .0) (c .in-Atom .at) _ true (c .over-limit .result) (sees .1) (sees .2)
-      (some-type (c .in-Atom .kind) (c .in-Atom .at) 0 (sees .0) (c .in-Some .field-0) (sym (c .in-Some .ensures tt))) (c .over-limit .ensures)
+    (some-type (c .in-Atom .kind) (c .in-Atom .at) 0 (sees .0) (c .in-Some .field-0) (sym (c .in-Some .ensures tt))) (c .over-limit .ensures)
 
 pub returns-in-None : need.returns-in-None
 returns-in-None c =
     let sees = c .in-Atom .ensures tt in
     seventh-atom (c .args .text .now) (c .args .place) (c .in-Atom .kind) (sees .0) (c .in-Atom .at) _ false (c .wrong .result) (sees .1) (sees .2)
-      (ap isSome (no-type (c .in-Atom .kind) (c .in-Atom .at) 0 (sees .0) (sym (c .in-None .ensures tt)))) (c .wrong .ensures)
+    (ap isSome (no-type (c .in-Atom .kind) (c .in-Atom .at) 0 (sees .0) (sym (c .in-None .ensures tt)))) (c .wrong .ensures)
 
 pub returns-then-is-arrow : need.returns-then-is-arrow
 returns-then-is-arrow c =

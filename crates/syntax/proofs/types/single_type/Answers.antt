@@ -13,7 +13,7 @@ returns-in-Err c = record {
   told = λ text w n spelt size same.
       let long : c .args .after - c .args .place ≡ length w = omega arith in
       single-denied text w (c .args .kind) (c .args .place) (c .args .after) (c .args .used) (c .in-Some .form) (c .args .types .now) n _
-        spelt (c .in-Some .ensures tt ∙ ap (typeForm (c .args .kind)) long) same (c .in-Err .refused) (sym (c .in-Err .ensures tt));
+      spelt (c .in-Some .ensures tt ∙ ap (typeForm (c .args .kind)) long) same (c .in-Err .refused) (sym (c .in-Err .ensures tt));
 }
 
 pub returns-in-Ok : need.returns-in-Ok
@@ -24,5 +24,5 @@ returns-in-Ok c =
       told = λ text w n spelt size same.
           let long : c .args .after - c .args .place ≡ length w = omega arith in
           single-granted text w (c .args .kind) (c .args .place) (c .args .after) (c .args .used) (c .in-Some .form) (c .args .types .now) n _
-            spelt (c .in-Some .ensures tt ∙ ap (typeForm (c .args .kind)) long) same (c .in-Ok .past) refl (sym (c .in-Ok .ensures tt));
+          spelt (c .in-Some .ensures tt ∙ ap (typeForm (c .args .kind)) long) same (c .in-Ok .past) refl (sym (c .in-Ok .ensures tt));
     }
