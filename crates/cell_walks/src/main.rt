@@ -8,10 +8,10 @@ mod told;
 mod tour;
 
 use crate::tour::{Tour, walk_all};
+use cell_data::refusals::WalkRefusal;
 use cells::store::CellStore;
 use chain::slots::ChainSlot;
 use chain::store::ChainStore;
-use cell_data::refusals::WalkRefusal;
 use marked::slots::MarkedSlot;
 use marked::store::MarkedStore;
 use shelf::Shelf;

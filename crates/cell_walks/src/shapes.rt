@@ -1,9 +1,9 @@
 // Shapes of data to walk.
+use cell_data::copies::copy_value;
+use cell_data::refusals::WalkRefusal;
 use cells::records::CellRecord;
 use cells::store::CellStore;
 use cells::values::Value;
-use cell_data::copies::copy_value;
-use cell_data::refusals::WalkRefusal;
 
 const NIL: u16 = 0;
 

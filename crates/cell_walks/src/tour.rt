@@ -1,13 +1,13 @@
 use crate::seen::Seen;
 use crate::shapes::{comb, leaning, list, pair, sixes, take, twos};
 use crate::told::Told;
-use cells::records::CellRecord;
-use cells::store::CellStore;
-use cells::values::Value;
 use cell_data::copies::copy_value;
 use cell_data::drops::drop_value;
 use cell_data::refusals::WalkRefusal;
 use cell_data::sizes::size_of;
+use cells::records::CellRecord;
+use cells::store::CellStore;
+use cells::values::Value;
 use std::fmt;
 
 // What was seen on one store: lists and trees, a copy for which there was no room, and data that is no tree.

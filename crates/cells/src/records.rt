@@ -4,14 +4,13 @@ ghost use Rattle.cells.specs.Values.{all_unit};
 use crate::values::Value;
 
 // What a live cell holds: a constructor, how many of its six fields are used, the fields, and a spare number that is
-// free for whoever walks the cells. Unused fields hold unit. The fields come first, so that no padding stands between them and
-// what is before them: a record is then copied by whole pieces, and none is read back before it is written.
+// free for whoever walks the cells. Unused fields hold unit.
 #[derive(Clone, Copy)]
 pub struct CellRecord {
-    pub fields: [Value; 6],
-    pub spare: u32,
     pub constructor: u16,
     pub used: u8,
+    pub fields: [Value; 6],
+    pub spare: u32,
     ghost six: { length fields ≡ 6 },
     ghost few: { used ≤ 6 },
     ghost rest: { all_unit (drop used fields) ≡ true },

@@ -1,5 +1,7 @@
 // Data in a store: what a value stands for, and the walks over it. No walk recurses or takes memory: its work list is
 // threaded through the spare numbers of the cells that it walks.
+#![tactic(auto)]
+
 pub mod copied;
 pub mod copies;
 pub mod drops;

@@ -3,8 +3,8 @@ use super::types::{push_type, push_types};
 use explain::shown;
 use layout::{Constructor, Datatype, Definition, Function, Node, Tables, Val, Word};
 use names::part;
-use std::io;
 use parser::Script;
+use std::io;
 
 // How deep function types nest.
 const DEPTH: usize = 64;

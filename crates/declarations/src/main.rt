@@ -8,8 +8,8 @@ use advice::explain_refusal;
 use declared::print_declared;
 use host::read_script;
 use layout::{Node, NodeForm};
-use std::io;
 use parser::read;
+use std::io;
 
 // The most nodes of a script.
 const NODES: usize = 4096;

@@ -12,10 +12,10 @@ ghost use Rattle.rules.specs.States.{Environment, Account, st};
 ghost use Rattle.rules.specs.States.{Frame as Waits, enter as enters};
 ghost use Rattle.rules.specs.Steps.{Sizes, look, enter_name, dup_entered, val_entered};
 
-use cells::store::CellStore;
-use cells::values::Value;
 use cell_data::copies::copy_value;
 use cell_data::refusals::WalkRefusal;
+use cells::store::CellStore;
+use cells::values::Value;
 use machine::{Frame, Machine, Slot, Turn, finish, val_at, value_at, wait};
 use rules::FaultKind;
 

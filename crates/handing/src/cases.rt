@@ -15,10 +15,10 @@ ghost use Rattle.rules.specs.Steps.{Sizes, select_branch, hand};
 use super::choice::Choice;
 use super::choosing::choose;
 use super::fields::{bind_fields, names_in};
+use cell_data::drops::drop_value;
 use cells::records::CellRecord;
 use cells::store::CellStore;
 use cells::values::Value;
-use cell_data::drops::drop_value;
 use machine::{Frame, Machine, Turn, after, code_at, go};
 use rules::FaultKind;
 

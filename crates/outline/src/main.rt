@@ -1,4 +1,6 @@
 // The program `outline`: prints the tokens of `script.com`, or says in plain words why the text is refused and where.
+#![tactic(auto)]
+
 mod advice;
 mod listing;
 mod source;

@@ -1,8 +1,8 @@
 // The rows of what reading leaves: the nodes of a script and its tables.
 use super::node_rows::add_nodes;
 use layout::{Constructor, Definition, Function, Tables, TypeForm, TypeNode, Word};
-use std::alloc::{AllocError, Global};
 use parser::Script;
+use std::alloc::{AllocError, Global};
 
 fn type_words(heap: Global, form: TypeForm) -> Result<String, AllocError> {
     match form {

@@ -5,9 +5,9 @@ use super::line::Line;
 use super::rows::rows_of;
 use super::tally::Tally;
 use layout::{Node, NodeForm};
+use parser::{Script, read};
 use std::alloc::{AllocError, Global};
 use std::io;
-use parser::{Script, read};
 
 // What a case gave: the answer, its rows, and whether the node list was left as it has to be.
 #[derive(Drop)]

@@ -87,17 +87,17 @@ impl<'b, S: CellStore> Shelf<'b, S> {
 
     // Takes cells off the shelf, the last given back first, until one is live below, and writes the contents there.
     #[inline(always)]
-    fn reuse(&mut self, contents: &CellRecord) -> Option<u16>
+    fn reuse(&mut self, contents: CellRecord) -> Option<u16>
         ensures found { MatchOption result
             ((S.CellStore.cells self.new.below.now ≡ less self.old.kept (S.CellStore.cells self.old.below.now)) × (self.new.kept ≡ replicate 16 65535) × ((k : ℕ) → among self.old.kept k ≡ true → at (S.CellStore.cells self.old.below.now) k ≡ None))
-            (λ i. TakenAt (less self.old.kept (S.CellStore.cells self.old.below.now)) contents.now i (less self.new.kept (S.CellStore.cells self.new.below.now)) × (among self.old.kept i ≡ true)) }
+            (λ i. TakenAt (less self.old.kept (S.CellStore.cells self.old.below.now)) contents i (less self.new.kept (S.CellStore.cells self.new.below.now)) × (among self.old.kept i ≡ true)) }
         ensures lent { self.new.below.ghost_name ≡ self.old.below.ghost_name }
     {
         while self.count > 0 {
             self.count -= 1;
             let top = self.kept[self.count];
             self.kept[self.count] = MOST_CELLS;
-            if self.below.write(top, *contents).is_ok() {
+            if self.below.write(top, contents).is_ok() {
                 return Some(top);
             }
         }
@@ -117,7 +117,7 @@ impl<S: CellStore> CellStore for Shelf<'_, S> {
         ensures first { (k : ℕ) → among self.old.kept k ≡ true → is_live (S.CellStore.cells self.old.below.now) k ≡ true → FromShelf self.old.kept result }
         ensures lent { self.new.below.ghost_name ≡ self.old.below.ghost_name }
     {
-        match self.reuse(&contents) {
+        match self.reuse(contents) {
             Some(cell) => Ok(cell),
             None => self.below.take(contents),
         }

@@ -1,5 +1,7 @@
 // The syntax layer: tokens as forms. Expressions are read into a node list, type expressions into a table of types; definitions and the
 // call that reads a whole script are still to come.
+#![tactic(auto)]
+
 mod atoms;
 mod expressions;
 mod form;

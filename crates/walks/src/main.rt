@@ -1,5 +1,7 @@
 // Sizes, copies and drops long lists, deep and wide trees, and data that is no tree, on every store, and prints what it
 // counted. Every store is empty at the end.
+#![tactic(auto)]
+
 mod seen;
 mod shapes;
 mod told;
