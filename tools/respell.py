@@ -14,10 +14,11 @@ import sys
 HERE = os.path.dirname(os.path.realpath(__file__))
 WORD = r"[A-Za-z_][A-Za-z0-9_'′]*(?:-[A-Za-z0-9_'′]+)*"
 CAMEL = re.compile(r"(?<![A-Za-z0-9_'′.-])[a-z][a-z0-9]*[A-Z][A-Za-z0-9]*(?![A-Za-z0-9_'′-])")
-# fields that the check itself names after functions, in the proof of a function
-FUNCTIONS = {"let-form": "let_form", "case-form": "case_form", "dup-form": "dup_form", "function-type": "function_type", "is-arrow": "is_arrow"}
+# fields that the check itself names, after functions and after what is known where branches join, in the proof of a function
+FIELDS = {"let-form": "let_form", "case-form": "case_form", "dup-form": "dup_form", "function-type": "function_type", "is-arrow": "is_arrow"}
+FIELDS.update((name, name) for name in ("at-is", "count-is", "found-is", "nodes-is", "if-test"))
 # what a file brings in from the library keeps its name there
-LIBRARY = re.compile(r"use Rattle\.std\.[^{};]*\{([^}]*)\}")
+LIBRARY = re.compile(r"\buse (?:Rattle\.std|lib|mathlib|Prim)\.[^{};\n]*\{([^}]*)\}")
 PROOF_OF_FUNCTION = {"Answers.antt", "Choices.antt", "Invariants.antt", "Proof.antt"}
 
 
@@ -37,8 +38,8 @@ def in_code(text, names, comment, char, of_function):
         word = m.group(0)
         if m.lastgroup == "comment":
             return in_comment(word, names)
-        if of_function and word in FUNCTIONS and m.start() and text[m.start() - 1] == ".":
-            return FUNCTIONS[word]
+        if of_function and word in FIELDS and m.start() and text[m.start() - 1] == ".":
+            return FIELDS[word]
         return names.get(word, word)
 
     return parts.sub(turn, text)

@@ -1,7 +1,7 @@
 -- What a call of each function of the basis comes to.
 use Rattle.std.specs.Prelude.{ℕ, ◌%◌, true, false, not, ◌&&◌, ◌||◌, List, [], ◌∷◌, ℤ, Ok, Err, Result, ◌==◌, int_le, int_lt}
 use Rattle.std.proofs.Math.Bool as bool
-use Rattle.basis.specs.Arithmetic.{bits_of, sum, difference, product, negation, quotient, remainderOf, unsignedQuotient, unsignedRemainderOf, conjunction, disjunction, exclusion, complementOf, leftShift, rightShift}
+use Rattle.basis.specs.Arithmetic.{bits_of, sum, difference, product, negation, quotient, remainder_of, unsigned_quotient, unsigned_remainder_of, conjunction, disjunction, exclusion, complement_of, left_shift, right_shift}
 use Rattle.basis.specs.declared.applied.Applied.{Applied}
 use Rattle.basis.specs.declared.applied.Applied.TheVariants.{Int, Bool, Prints, Reads, Faults, Mismatch}
 use Rattle.basis.specs.declared.fault.ArithmeticFault.{ArithmeticFault}
@@ -102,9 +102,9 @@ applied Add s = ints2 s (λ a b. Int (sum a b))
 applied Subtract s = ints2 s (λ a b. Int (difference a b))
 applied Multiply s = ints2 s (λ a b. Int (product a b))
 applied Divide s = ints2 s (λ a b. answer (quotient a b))
-applied Remainder s = ints2 s (λ a b. answer (remainderOf a b))
-applied UnsignedDivide s = ints2 s (λ a b. answer (unsignedQuotient a b))
-applied UnsignedRemainder s = ints2 s (λ a b. answer (unsignedRemainderOf a b))
+applied Remainder s = ints2 s (λ a b. answer (remainder_of a b))
+applied UnsignedDivide s = ints2 s (λ a b. answer (unsigned_quotient a b))
+applied UnsignedRemainder s = ints2 s (λ a b. answer (unsigned_remainder_of a b))
 applied Negate s = int1 s (λ a. Int (negation a))
 applied Greater s = ints2 s (λ a b. Bool (int_lt b a))
 applied Less s = ints2 s (λ a b. Bool (int_lt a b))
@@ -117,9 +117,9 @@ applied Xor s = bools2 s (λ a b. Bool (not (equal_bools a b)))
 applied BitAnd s = ints2 s (λ a b. Int (conjunction a b))
 applied BitOr s = ints2 s (λ a b. Int (disjunction a b))
 applied BitXor s = ints2 s (λ a b. Int (exclusion a b))
-applied ShiftLeft s = ints2 s (λ a b. answer (leftShift a b))
-applied ShiftRight s = ints2 s (λ a b. answer (rightShift a b))
-applied Complement s = int1 s (λ a. Int (complementOf a))
+applied ShiftLeft s = ints2 s (λ a b. answer (left_shift a b))
+applied ShiftRight s = ints2 s (λ a b. answer (right_shift a b))
+applied Complement s = int1 s (λ a. Int (complement_of a))
 applied PrintInt s = int1 s (λ a. Prints (print.Int a))
 applied PrintBool s = bool1 s (λ a. Prints (print.Bool a))
 applied PrintSym s = sym1 s (λ a. Prints (print.Sym a))

@@ -1,14 +1,14 @@
 -- What a sign and one digit do to the integer that a word writes.
 use Rattle.std.proofs.Common.{◌≡◌, ℕ, suc, ◌+◌, ◌-◌, ◌*◌, ◌<◌, ◌≤◌, Bool, true, false, not, eqb, ◌⊎◌, List, [], ◌∷◌, length, get_or, take, drop, Some, None, sym, refl, ap, ◌∙◌, inl, inr, add-one, arith, drop-cons}
 use lib.Dec.{eqb-suc-zero}
-use lib.Seq.{take_length}
+use lib.Seq.{take-length}
 use Rattle.std.proofs.lemmas.Bool.Decides.{nat_tests}
 use Rattle.text.specs.Integers.{is_minus, unsigned, digit_byte, all_digits, only_digits, decimal, capped}
 
 -- what stands behind the first byte of a slice pattern
 tail : (s : List ℕ) → take (length s - 1) (drop 1 s) ≡ drop 1 s
 tail [] = refl
-tail (b ∷ s) = simp (add_sub_one) (take_length s)
+tail (b ∷ s) = simp (add_sub_one) (take-length s)
   where
     add_sub_one : suc (length s) - 1 ≡ length s
     add_sub_one = omega arith

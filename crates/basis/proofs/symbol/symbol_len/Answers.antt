@@ -12,8 +12,8 @@ loop-b-preserved c =
     let lt = c.loop-b-test.true in
     let g = c.goes-escaped.ensures in
     elim c.if-not-escaped.branch [
-      | then-not-escaped w ↦ (let e = ap length (stays body i lt c.loop-b.escaped _ g w.if-not-escaped.true) in (omega (arith, w.count_is), omega (arith, w.count_is)))
-      | else-not-escaped w ↦ (let e = ap length (gone body i lt c.loop-b.escaped _ g w.if-not-escaped.false) in (omega (arith, w.count_is), omega (arith, w.count_is)))
+      | then-not-escaped w ↦ (let e = ap length (stays body i lt c.loop-b.escaped _ g w.if-not-escaped.true) in (omega (arith, w.count-is), omega (arith, w.count-is)))
+      | else-not-escaped w ↦ (let e = ap length (gone body i lt c.loop-b.escaped _ g w.if-not-escaped.false) in (omega (arith, w.count-is), omega (arith, w.count-is)))
     ]
 
 pub returns : goal.returns

@@ -32,9 +32,9 @@ loop-b-preserved c =
     let lt = c.loop-b-test.true in
     let g = c.goes-escaped.ensures in
     elim c.if-not-escaped.branch [
-      | then-not-escaped w ↦ subst (λ at. Unescaping body n before t (i + 1) at c.if-not-escaped.out) (sym w.at_is)
+      | then-not-escaped w ↦ subst (λ at. Unescaping body n before t (i + 1) at c.if-not-escaped.out) (sym w.at-is)
           (subst (λ out. Unescaping body n before t (i + 1) (c.loop-b.at + 1) out) (sym w.out-is) (written _ _ _ _ _ _ _ u lt _ g w.if-not-escaped.true))
-      | else-not-escaped w ↦ subst (λ at. Unescaping body n before t (i + 1) at c.if-not-escaped.out) (sym w.at_is)
+      | else-not-escaped w ↦ subst (λ at. Unescaping body n before t (i + 1) at c.if-not-escaped.out) (sym w.at-is)
           (subst (λ out. Unescaping body n before t (i + 1) c.loop-b.at out) (sym w.out-is) (skipped _ _ _ _ _ _ _ u lt _ g w.if-not-escaped.false))
     ]
 

@@ -26,11 +26,11 @@ loop-i-preserved g c =
     let more = among_more s.kept i 0 c.args.cell (omega (arith, s.sixteen, c.loop-i-test.true)) in
     elim c.if-self-i.branch [
       | then-self-i w ↦
-          w.found_is ∙ or-true c.loop-i.found
+          w.found-is ∙ or-true c.loop-i.found
           ∙ ap (λ b. c.loop-i.found || b) (sym (eq-eqb (get_or s.kept i 0) c.args.cell w.if-self-i.true))
           ∙ ap (λ b. b || eqb (get_or s.kept i 0) c.args.cell) c.loop-i.invariant ∙ sym more
       | else-self-i w ↦
-          w.found_is ∙ or_is_false c.loop-i.found
+          w.found-is ∙ or_is_false c.loop-i.found
           ∙ ap (λ b. c.loop-i.found || b) (sym (ne_eqb (get_or s.kept i 0) c.args.cell w.if-self-i.false))
           ∙ ap (λ b. b || eqb (get_or s.kept i 0) c.args.cell) c.loop-i.invariant ∙ sym more
     ]
