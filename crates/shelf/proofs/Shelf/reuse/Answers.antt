@@ -27,10 +27,10 @@ returns-then-is_ok g c =
     let n = s.count - 1 in
     let cells = g.S.CellStore.cells in
     let within : c.loop-self.self.count - 1 < length c.loop-self.self.kept = omega (arith, s.few, s.sixteen, c.loop-self-test.true) in
-    let hit = reuse_hit s.kept n (cells s.below.now) (cells c.write.new.self) c.args.contents.now c.write.result (g.S.CellStore.small s.below.now) within s.once (sym c.if-is_ok.ensures.value) c.write.ensures in
+    let hit = reuse_hit s.kept n (cells s.below.now) (cells c.write.new.self) c.args.contents c.write.result (g.S.CellStore.small s.below.now) within s.once (sym c.if-is_ok.ensures.value) c.write.ensures in
     record {
       found = (
-        subst (λ cs. TakenAt cs c.args.contents.now (get_or s.kept n 0) (less (set s.kept n 65535) (cells c.write.new.self))) c.loop-self.invariant.1 hit.0,
+        subst (λ cs. TakenAt cs c.args.contents (get_or s.kept n 0) (less (set s.kept n 65535) (cells c.write.new.self))) c.loop-self.invariant.1 hit.0,
         sym (c.loop-self.invariant.2 (get_or s.kept n 0) (ap (λ cs. is_live cs (get_or s.kept n 0)) (sym c.loop-self.invariant.0) ∙ hit.1)) ∙ among_at s.kept n 0 within,
       );
       lent = c.loop-self.invariant.3;
@@ -44,7 +44,7 @@ loop-self-preserved g c =
     let cells = g.S.CellStore.cells in
     let entry = cells c.args.self.now.below.now in
     let within : c.loop-self.self.count - 1 < length c.loop-self.self.kept = omega (arith, s.few, s.sixteen, c.loop-self-test.true) in
-    let miss = reuse_miss top (cells s.below.now) (cells c.write.new.self) c.args.contents.now c.write.result (sym c.if-is_ok.ensures.value) c.write.ensures in (
+    let miss = reuse_miss top (cells s.below.now) (cells c.write.new.self) c.args.contents c.write.result (sym c.if-is_ok.ensures.value) c.write.ensures in (
       miss.0 ∙ c.loop-self.invariant.0,
       ap (less (set s.kept n 65535)) miss.0 ∙ passed s.kept n (cells s.below.now) (g.S.CellStore.small s.below.now) within miss.1 ∙ c.loop-self.invariant.1,
       λ k live.
