@@ -7,9 +7,9 @@ use Rattle.explain.specs.Shown.{byte_shown}
 use Rattle.fault_names.specs.FaultNames.{name_of}
 use Rattle.rules.specs.Faults as faults
 use Rattle.rules.specs.declared.fault.Fault.{Fault}
-use Rattle.text.specs.Refusals as refusals
-use Rattle.text.specs.declared.refusal.Refusal.TheVariants.{Consumed}
-use Rattle.text.specs.declared.refusal.Refused.{Refused}
+use Rattle.script_refusals.specs.Refusals as refusals
+use Rattle.script_refusals.specs.declared.refusal.Refusal.TheVariants.{Consumed}
+use Rattle.script_refusals.specs.declared.refusal.Refused.{Refused}
 
 abbrev pub refusal_explained : List ℕ → Refused → List ℕ
 refusal_explained text r = explained text (refusals.number_of r.refusal) r.place (refusal_sentence r.refusal)

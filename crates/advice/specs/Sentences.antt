@@ -3,8 +3,8 @@
 use Rattle.std.specs.Prelude.{ℕ, Bool, false, ◌&&◌, List, [], ◌∷◌, ◌++◌, decimal, ◌==◌, nat_le}
 use Rattle.cells.specs.declared.refusals.StoreRefusal.{StoreRefusal}
 use Rattle.cells.specs.declared.refusals.StoreRefusal.TheVariants.{DeadCell, NoFreeCell}
-use Rattle.text.specs.declared.refusal.Refusal.{Refusal}
-use Rattle.text.specs.declared.refusal.Refusal.TheVariants.{Symbol, Integer, Bracket, Form, Limit, Repeated, Unknown, Unpaired, Mismatch, Consumed, NoMain, NodeList, Changed}
+use Rattle.script_refusals.specs.declared.refusal.Refusal.{Refusal}
+use Rattle.script_refusals.specs.declared.refusal.Refusal.TheVariants.{Symbol, Integer, Bracket, Form, Limit, Repeated, Unknown, Unpaired, Mismatch, Consumed, NoMain, NodeList, Changed}
 use Rattle.rules.specs.declared.fault.FaultKind.{FaultKind}
 use Rattle.rules.specs.declared.fault.FaultKind.TheVariants.{NoBranch, ZeroDivisor, BadShift, TooFewCells, StackFull, Stuck, AllowanceSpent}
 use Rattle.advice.specs.declared.faults.TheConstants.{NO_BRANCH, ZERO_DIVISOR, BAD_SHIFT, STUCK, CELLS, HOLD_LESS, STACKS, WAITING, NEST_LESS, STEPS, COME_TO_AN_END}

@@ -8,8 +8,8 @@ use super::refusals::refusal_advice;
 use explain::{explanation, explanation_with_first, pointed, shown};
 use fault_names::name_of;
 use rules::Fault;
+use script_refusals::{Refusal, Refused};
 use std::alloc::{AllocError, Global};
-use text::{Refusal, Refused};
 
 // Why the script with this text is refused.
 pub fn explain_refusal(heap: Global, text: &[u8], refused: Refused) -> Result<String, AllocError>

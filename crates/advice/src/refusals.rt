@@ -3,7 +3,7 @@ ghost use Rattle.std.specs.Prelude.{◌≡◌, IsTrue};
 ghost use Rattle.advice.specs.Sentences.{is_sentence, refusal_sentence, store_sentence};
 
 use cells::refusals::StoreRefusal;
-use text::Refusal;
+use script_refusals::Refusal;
 
 const SYMBOL: &str =
     "This symbol is not closed or wrongly escaped: end it with ', and put a backslash before each ' and each backslash inside, and before nothing else.";

@@ -1,4 +1,4 @@
-// The program `outline`: prints what `script.com` declares, or says in plain words why it is refused and where.
+// The program `declarations`: prints what `script.com` declares, or says in plain words why it is refused and where.
 #![tactic(auto)]
 
 mod declared;
@@ -9,6 +9,7 @@ use declared::print_declared;
 use host::read_script;
 use layout::{Node, NodeForm};
 use parser::read;
+use script_refusals::of_reading;
 use std::io;
 
 // The most nodes of a script.
@@ -24,6 +25,6 @@ fn main(rt: HostRuntime) -> io::Result<()> {
     let mut nodes = vec![in rt.alloc(); unused; NODES]?;
     match read(&text, &mut nodes) {
         Ok(script) => print_declared(&rt, &script),
-        Err(refused) => rt.print(explain_refusal(rt.alloc(), &text, refused)?),
+        Err(refused) => rt.print(explain_refusal(rt.alloc(), &text, of_reading(refused))?),
     }
 }

@@ -14,8 +14,8 @@ use Rattle.rules.specs.declared.answers.Closed.{Closed}
 use Rattle.rules.specs.declared.answers.End as answered
 use Rattle.rules.specs.declared.answers.End.TheVariants as end
 use Rattle.rules.specs.declared.fault.Fault as run_fault
-use Rattle.text.specs.Refusals as refusals
-use Rattle.text.specs.declared.refusal.Refused.{Refused}
+use Rattle.script_refusals.specs.Refusals as refusals
+use Rattle.script_refusals.specs.declared.refusal.Refused.{Refused}
 
 -- accepted, or refused with that number at that place
 abbrev pub VerdictAgrees : Verdict → Option Refused → Type 0

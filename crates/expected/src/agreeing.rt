@@ -6,7 +6,7 @@ ghost use Rattle.expected.specs.Agreeing.{VerdictAgrees, FaultAgrees, EndAgrees,
 use cases::Verdict;
 use fault_names::name_of;
 use rules::{Advanced, Closed};
-use text::Refused;
+use script_refusals::Refused;
 
 fn is_same(a: &[u8], b: &[u8]) -> bool
     ensures { IsTrue result ↔ (a.now ≡ b.now) }

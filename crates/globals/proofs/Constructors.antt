@@ -11,7 +11,7 @@ use Rattle.layout.specs.Tabling.{unused_constructor}
 use Rattle.layout.specs.declared.tables.Tables.{Tables}
 use Rattle.program.specs.Programs as means
 use Rattle.program.specs.Programs.{Name, Bound, bound_variants}
-use Rattle.text.specs.declared.refusal.Refused.{Refused}
+use Rattle.script_refusals.specs.declared.refusal.Refused.{Refused}
 use Rattle.typing.specs.Scripts.{basis_names}
 use Rattle.typing.specs.Verdict.{Verdict, refused, once, once_variants}
 

@@ -17,7 +17,7 @@ use Rattle.layout.specs.declared.definition.Val.{Val}
 use Rattle.layout.specs.declared.tables.Tables.{Tables}
 use Rattle.program.specs.Programs as means
 use Rattle.program.specs.Programs.{Name, Bound, basis_count}
-use Rattle.text.specs.declared.refusal.Refused.{Refused}
+use Rattle.script_refusals.specs.declared.refusal.Refused.{Refused}
 use Rattle.typing.specs.Scripts.{basis_names, bytes_of}
 use Rattle.typing.specs.Verdict.{Verdict, refused, once, once_variants, once_all}
 use Rattle.type_rows.proofs.ScriptRows.{type_some}

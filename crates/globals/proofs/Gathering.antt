@@ -13,7 +13,7 @@ use Rattle.layout.specs.declared.definition.Definition.{Definition}
 use Rattle.layout.specs.declared.tables.Tables.{Tables}
 use Rattle.program.specs.Programs as means
 use Rattle.program.specs.Programs.{Bound, bound_variants}
-use Rattle.text.specs.declared.refusal.Refused.{Refused}
+use Rattle.script_refusals.specs.declared.refusal.Refused.{Refused}
 use Rattle.type_rows.proofs.ScriptRows.{type_some}
 use Rattle.typing.specs.Verdict.{refused}
 

@@ -18,8 +18,8 @@ use Rattle.layout.specs.declared.definition.Definition.TheVariants as definition
 use Rattle.layout.specs.declared.tables.Tables.{Tables}
 use Rattle.layout.proofs.Lists.{Has}
 use Rattle.program.specs.Programs.{Program, Define, program, first_of, defines_of}
-use Rattle.text.specs.declared.refusal.Refusal.TheVariants as refusal
-use Rattle.text.specs.declared.refusal.Refused.{Refused}
+use Rattle.script_refusals.specs.declared.refusal.Refusal.TheVariants as refusal
+use Rattle.script_refusals.specs.declared.refusal.Refused.{Refused}
 use Rattle.type_rows.specs.Rows.{shape_at, kind_at, IsKind}
 use Rattle.type_rows.specs.Shapes.{kind_of, ty}
 use Rattle.type_rows.specs.TypeExprs.{inner, types_listed, meaning, HasRows}

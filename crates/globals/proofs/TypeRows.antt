@@ -5,7 +5,7 @@ use Rattle.std.proofs.lemmas.List.{drop_more, drop_all, get_or-set_same, get_or-
 use Rattle.globals.specs.Types.{known_head, known_all}
 use Rattle.grammar.specs.Trees.{TypeExpr}
 use Rattle.program.specs.Programs.{Program}
-use Rattle.text.specs.declared.refusal.Refused.{Refused}
+use Rattle.script_refusals.specs.declared.refusal.Refused.{Refused}
 use Rattle.type_rows.specs.Rows.{no_row, row_at}
 use Rattle.type_rows.specs.Signatures.{root_of, signature_rows, HasBasis}
 use Rattle.type_rows.specs.TypeExprs.{no_type, expr_at, row_of, HasRows}

@@ -13,7 +13,7 @@ use Rattle.grammar.specs.Trees.{Ident, Constructor, datatype_definition, type_an
 use Rattle.program.specs.Programs as means
 use Rattle.program.specs.Programs.{Name, Program, Bound, Define, Variant, Global, first_of, type_meant, basis_or, global_of, bound_variants, bound_from, defines_of, variants, variants_from, basis_count, program}
 use Rattle.text.specs.Scans.{refused_at}
-use Rattle.text.specs.declared.refusal.Refusal.TheVariants as refusal
+use Rattle.script_refusals.specs.declared.refusal.Refusal.TheVariants as refusal
 use Rattle.type_rows.specs.Rows.{IsKind}
 use Rattle.type_rows.specs.Shapes.{ty}
 use Rattle.type_rows.specs.Signatures.{root_of}

@@ -5,7 +5,7 @@ use Rattle.globals.specs.Types.{known_head, known_all}
 use Rattle.grammar.specs.Trees as tree
 use Rattle.grammar.specs.Trees.{TypeExpr, TypeExprs, Constructor, datatype_definition, type_annotation, function_definition, val_binding, Script}
 use Rattle.program.specs.Programs.{Program, program, first_of}
-use Rattle.text.specs.declared.refusal.Refused.{Refused}
+use Rattle.script_refusals.specs.declared.refusal.Refused.{Refused}
 use Rattle.type_rows.specs.TypeExprs.{inner, inners, field_types, types_listed}
 use Rattle.typing.specs.Scripts.{basis_names}
 use Rattle.typing.specs.Verdict.{Verdict, accepted, refused, before, once_all, known_type, known_types, known_fields, stated, paired, each, main_stands}

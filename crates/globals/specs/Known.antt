@@ -8,8 +8,8 @@ use Rattle.globals.specs.declared.whole.Globals.{Globals}
 use Rattle.grammar.specs.Trees.{Script}
 use Rattle.program.specs.Programs.{Program, Variant, program, first_of}
 use Rattle.text.specs.Scans.{refused_at}
-use Rattle.text.specs.declared.refusal.Refusal.TheVariants as refusal
-use Rattle.text.specs.declared.refusal.Refused.{Refused}
+use Rattle.script_refusals.specs.declared.refusal.Refusal.TheVariants as refusal
+use Rattle.script_refusals.specs.declared.refusal.Refused.{Refused}
 use Rattle.type_rows.specs.Rows.{TypesLie, RowsMean, IsKind}
 use Rattle.type_rows.specs.Shapes.{ty}
 use Rattle.type_rows.specs.Signatures.{HasBasis}

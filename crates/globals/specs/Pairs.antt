@@ -6,8 +6,8 @@ use Rattle.globals.specs.declared.define_types.DefineTypes.{DefineTypes}
 use Rattle.grammar.specs.Trees as tree
 use Rattle.grammar.specs.Trees.{Ident, Script}
 use Rattle.program.specs.Programs.{Name, Program, Annotation, Define, first_of}
-use Rattle.text.specs.declared.refusal.Refusal.TheVariants as refusal
-use Rattle.text.specs.declared.refusal.Refused.{Refused}
+use Rattle.script_refusals.specs.declared.refusal.Refusal.TheVariants as refusal
+use Rattle.script_refusals.specs.declared.refusal.Refused.{Refused}
 use Rattle.type_rows.specs.Rows.{IsKind}
 use Rattle.type_rows.specs.Shapes.{ty}
 use Rattle.type_rows.specs.TypeExprs.{inner, types_listed}

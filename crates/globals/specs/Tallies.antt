@@ -15,7 +15,7 @@ use Rattle.layout.specs.Tabling.{after}
 use Rattle.names.specs.Indexing.{IsIndex, names_in}
 use Rattle.program.specs.Programs as means
 use Rattle.program.specs.Programs.{Name, Bound, Annotation, bound_variants}
-use Rattle.text.specs.declared.refusal.Refused.{Refused}
+use Rattle.script_refusals.specs.declared.refusal.Refused.{Refused}
 use Rattle.typing.specs.Scripts.{basis_names, bytes_of}
 use Rattle.typing.specs.Verdict.{Verdict, refused, once_all}
 

@@ -6,8 +6,8 @@ use Rattle.grammar.specs.Limits.{types_count, types_length}
 use Rattle.grammar.specs.Trees as tree
 use Rattle.names.specs.Indexing.{IsIndex, names_in}
 use Rattle.program.specs.Programs.{Program, first_of}
-use Rattle.text.specs.declared.refusal.Refusal.TheVariants as refusal
-use Rattle.text.specs.declared.refusal.Refused.{Refused}
+use Rattle.script_refusals.specs.declared.refusal.Refusal.TheVariants as refusal
+use Rattle.script_refusals.specs.declared.refusal.Refused.{Refused}
 use Rattle.type_rows.specs.Signatures.{HasBasis}
 use Rattle.type_rows.specs.TypeExprs.{head_shape, HasRows}
 use Rattle.type_rows.specs.declared.rows.Rows.{Rows}

@@ -18,7 +18,7 @@ use super::variant::Variant;
 use basis::find;
 use layout::{Datatype, Define, Definition, Tables, Val, Word};
 use names::{Index, part};
-use text::{Refusal, Refused};
+use script_refusals::{Refusal, Refused};
 
 // The number of the first define among the functions: those of the basis come first.
 const FIRST_DEFINE: u16 = 33;

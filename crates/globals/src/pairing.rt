@@ -18,7 +18,7 @@ use super::define_types::DefineTypes;
 use super::tables::definition_at;
 use layout::{Definition, Tables, Word};
 use names::part;
-use text::{Refusal, Refused};
+use script_refusals::{Refusal, Refused};
 use type_rows::{Rows, ValueType};
 
 // The most definitions.

@@ -10,7 +10,7 @@ use super::declarations::Declarations;
 use super::tables::type_at;
 use layout::{Tables, TypeForm, Word};
 use names::part;
-use text::{Refusal, Refused};
+use script_refusals::{Refusal, Refused};
 use type_rows::{Row, Rows, Shape};
 
 // The most type expressions.

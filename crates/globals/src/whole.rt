@@ -18,7 +18,7 @@ use super::resolving::resolve;
 use super::variant::Variant;
 use basis::Basis;
 use layout::Tables;
-use text::{Refusal, Refused};
+use script_refusals::{Refusal, Refused};
 use type_rows::{Rows, ValueType, basis_type};
 
 #[derive(Clone, Copy)]

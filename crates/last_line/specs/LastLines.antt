@@ -3,8 +3,8 @@ use Rattle.std.specs.Prelude.{ℕ, List, ◌++◌, codes, decimal}
 use Rattle.fault_names.specs.FaultNames.{name_of}
 use Rattle.rules.specs.Faults as faults
 use Rattle.rules.specs.declared.fault.Fault.{Fault}
-use Rattle.text.specs.Refusals as refusals
-use Rattle.text.specs.declared.refusal.Refused.{Refused}
+use Rattle.script_refusals.specs.Refusals as refusals
+use Rattle.script_refusals.specs.declared.refusal.Refused.{Refused}
 use Rattle.last_line.specs.declared.outcome.Outcome.{Outcome}
 use Rattle.last_line.specs.declared.outcome.Outcome.TheVariants as became
 

@@ -2,13 +2,13 @@
 ghost use Rattle.std.specs.Prelude.{◌≡◌, ◌++◌, ◌∷◌, [], IfOk, string_bytes};
 ghost use Rattle.last_line.specs.LastLines.{fault_front, refused_line, ended_line, fault_line, line_of};
 ghost use Rattle.rules.specs.Faults as faults;
-ghost use Rattle.text.specs.Refusals as refusals;
+ghost use Rattle.script_refusals.specs.Refusals as refusals;
 
 use super::Outcome;
 use fault_names::name_of;
 use rules::Fault;
+use script_refusals::Refused;
 use std::alloc::{AllocError, Global};
-use text::Refused;
 
 fn refused_line(heap: Global, refused: Refused) -> Result<String, AllocError>
     ensures { IfOk result (λ line. string_bytes line ≡ refused_line refused) }

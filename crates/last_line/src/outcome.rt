@@ -1,6 +1,6 @@
 // What became of a script.
 use rules::Fault;
-use text::Refused;
+use script_refusals::Refused;
 
 #[derive(Clone, Copy)]
 pub enum Outcome {

@@ -28,8 +28,8 @@ use Rattle.scopes.specs.declared.local.Local.{Local as LocalCode}
 use Rattle.scopes.proofs.ContextLaws.{look_found, look_none, context_mark}
 use Rattle.scopes.proofs.PlacedLaws.{distance_found, distance_none}
 use Rattle.text.specs.Scans.{refused_at}
-use Rattle.text.specs.declared.refusal.Refusal.TheVariants as refusal
-use Rattle.text.specs.declared.refusal.Refused.{Refused}
+use Rattle.script_refusals.specs.declared.refusal.Refusal.TheVariants as refusal
+use Rattle.script_refusals.specs.declared.refusal.Refused.{Refused}
 use Rattle.type_rows.specs.declared.value_type.ValueType.{ValueType}
 use Rattle.typing.specs.Contexts.{Local, local, Context, local_named, consume}
 use Rattle.typing.specs.Judging.{refused, judged, entered, enter_local, enter_global, known, dup_local, dup_global, judge, judge_name, judge_dup}

@@ -26,8 +26,8 @@ use Rattle.program.specs.declared.code.Op.TheVariants as op
 use Rattle.scopes.specs.Locals.{Newest, FindsLocal}
 use Rattle.scopes.proofs.ContextLaws.{look_found, look_none}
 use Rattle.text.specs.Scans.{refused_at}
-use Rattle.text.specs.declared.refusal.Refusal.TheVariants as refusal
-use Rattle.text.specs.declared.refusal.Refused.{Refused}
+use Rattle.script_refusals.specs.declared.refusal.Refusal.TheVariants as refusal
+use Rattle.script_refusals.specs.declared.refusal.Refused.{Refused}
 use Rattle.type_rows.proofs.ScriptRows.{count_types}
 use Rattle.typing.specs.Contexts.{Local, Context, local_named}
 use Rattle.typing.specs.Judging.{refused, need, with_all_bound, judge_variant, judge_head, judge_pattern}

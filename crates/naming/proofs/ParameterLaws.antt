@@ -15,7 +15,7 @@ use Rattle.naming.specs.declared.world.World.{World}
 use Rattle.naming.proofs.PartsLaws.{divided}
 use Rattle.program.specs.Programs.{program}
 use Rattle.program.specs.Scopes.{bind_scope}
-use Rattle.text.specs.declared.refusal.Refused.{Refused}
+use Rattle.script_refusals.specs.declared.refusal.Refused.{Refused}
 use Rattle.type_rows.specs.Rows.{row_at, kind_at, TypesLie, IsKind}
 use Rattle.type_rows.specs.Shapes.{ty}
 use Rattle.type_rows.specs.declared.value_type.ValueType.{ValueType}

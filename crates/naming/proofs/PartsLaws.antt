@@ -11,7 +11,7 @@ use Rattle.patterns.specs.Parts.{IsPart}
 use Rattle.patterns.specs.declared.part.Part.TheVariants as part
 use Rattle.program.specs.Programs.{program}
 use Rattle.program.specs.Scopes.{bind_scope, bits}
-use Rattle.text.specs.declared.refusal.Refused.{Refused}
+use Rattle.script_refusals.specs.declared.refusal.Refused.{Refused}
 use Rattle.type_rows.specs.Rows.{row_at, kind_at, TypesLie, no_rows, and_row, IsKind}
 use Rattle.type_rows.specs.Shapes.{ty}
 use Rattle.type_rows.specs.declared.row.Row.{Row}

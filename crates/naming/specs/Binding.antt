@@ -18,7 +18,7 @@ use Rattle.program.specs.Scopes.{bind_scope, bits, names_inside, pattern_names}
 use Rattle.program.specs.declared.code.Code.{Code}
 use Rattle.scopes.specs.Locals.{context}
 use Rattle.scopes.specs.declared.local.Local.{Local}
-use Rattle.text.specs.declared.refusal.Refused.{Refused}
+use Rattle.script_refusals.specs.declared.refusal.Refused.{Refused}
 use Rattle.type_rows.specs.Rows.{TypesLie, IsKind}
 use Rattle.type_rows.specs.declared.value_type.ValueType.{ValueType}
 use Rattle.typing.specs.Contexts.{Context}

@@ -17,7 +17,7 @@ use Rattle.program.specs.declared.code.Code.{Code}
 use Rattle.scopes.specs.Locals.{SameBelow, context, KindsBelow, Placed}
 use Rattle.scopes.specs.declared.local.Local.{Local}
 use Rattle.scopes.specs.declared.scope.Scope.{Scope}
-use Rattle.text.specs.declared.refusal.Refused.{Refused}
+use Rattle.script_refusals.specs.declared.refusal.Refused.{Refused}
 use Rattle.type_rows.specs.Rows.{IsKind}
 use Rattle.type_rows.specs.Shapes.{ty}
 use Rattle.type_rows.specs.declared.row.Row.{Row}

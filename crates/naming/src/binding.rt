@@ -11,8 +11,8 @@ use layout::{Tables, Word};
 use names::part;
 use patterns::{Part, next_part};
 use scopes::{Local, Scope, find, push};
+use script_refusals::{Refusal, Refused};
 use stack::Full;
-use text::{Refusal, Refused};
 use type_rows::ValueType;
 
 // Whether no local in scope has a name, and nothing in the whole script.

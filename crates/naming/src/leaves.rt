@@ -16,7 +16,7 @@ use layout::{Node, Word};
 use names::part;
 use program::{Code, Op};
 use scopes::{Local, Scope, find, local_at};
-use text::{Refusal, Refused};
+use script_refusals::{Refusal, Refused};
 use type_rows::ValueType;
 
 // A literal.

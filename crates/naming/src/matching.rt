@@ -3,7 +3,7 @@ ghost use Rattle.std.specs.Prelude.{◌≡◌, ◌≤◌, ◌&&◌, List, length
 ghost use Rattle.naming.specs.Binding.{OnHead, OnConstructor, OnPattern};
 ghost use Rattle.naming.specs.Judges.{desk, Grown};
 ghost use Rattle.text.specs.Scans.{refused_at};
-ghost use Rattle.text.specs.declared.refusal.Refusal.TheVariants.{Mismatch};
+ghost use Rattle.script_refusals.specs.declared.refusal.Refusal.TheVariants.{Mismatch};
 ghost use Rattle.grammar.specs.Trees.{PatternPart};
 ghost use Rattle.patterns.specs.Parts.{PartsAt};
 
@@ -16,7 +16,7 @@ use names::part;
 use patterns::{Head, Part, head_at, next_part};
 use program::{Code, Op};
 use scopes::{Local, Scope, find};
-use text::{Refusal, Refused};
+use script_refusals::{Refusal, Refused};
 
 // How many parts stand from a place on.
 fn count_parts(text: &[u8], place: usize) -> usize

@@ -4,12 +4,12 @@ ghost use Rattle.std.specs.List.{slice_get};
 ghost use Rattle.layout.specs.Decoding.{node_found};
 ghost use Rattle.program.specs.Compiling.{code};
 ghost use Rattle.text.specs.Scans.{refused_at};
-ghost use Rattle.text.specs.declared.refusal.Refusal.{Refusal};
-ghost use Rattle.text.specs.declared.refusal.Refusal.TheVariants.{Mismatch};
+ghost use Rattle.script_refusals.specs.declared.refusal.Refusal.{Refusal};
+ghost use Rattle.script_refusals.specs.declared.refusal.Refusal.TheVariants.{Mismatch};
 
 use layout::{Node, NodeForm};
 use program::{Code, Op};
-use text::{Refusal, Refused};
+use script_refusals::{Refusal, Refused};
 use type_rows::ValueType;
 
 // The node with a number.

@@ -1,7 +1,7 @@
 -- The number of each refusal.
 use Rattle.std.specs.Prelude.{ℕ}
 use Rattle.text.specs.declared.refusal.Refusal.{Refusal}
-use Rattle.text.specs.declared.refusal.Refusal.TheVariants.{Symbol, Integer, Bracket, Form, Limit, Repeated, Unknown, Unpaired, Mismatch, Consumed, NoMain, NodeList, Changed}
+use Rattle.text.specs.declared.refusal.Refusal.TheVariants.{Symbol, Integer, Bracket, Form, Limit, NodeList}
 
 abbrev pub number_of : Refusal → ℕ
 number_of Symbol = 1
@@ -9,11 +9,4 @@ number_of Integer = 2
 number_of Bracket = 3
 number_of Form = 4
 number_of Limit = 5
-number_of Repeated = 6
-number_of Unknown = 7
-number_of Unpaired = 8
-number_of Mismatch = 9
-number_of Consumed = 10
-number_of NoMain = 11
 number_of NodeList = 21
-number_of Changed = 23

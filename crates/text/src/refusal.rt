@@ -15,22 +15,8 @@ pub enum Refusal {
     Form = 4,
     // a limit passed: at what passes it
     Limit = 5,
-    // a name that is bound or annotated twice, at the later one, or a local name that is not fresh
-    Repeated = 6,
-    // a name that nothing binds: at the name
-    Unknown = 7,
-    // a define without an annotation, or an annotation without a define: at its name
-    Unpaired = 8,
-    // types or numbers of parts that do not fit: at the form whose own rule fails
-    Mismatch = 9,
-    // a local name that is consumed already: at the name
-    Consumed = 10,
-    // no define `main` without parameters and with the result unit: at 0
-    NoMain = 11,
     // the node list is shorter than the script needs: at the node that lacks an entry
     NodeList = 21,
-    // the text or the node list is not what was read: at 0
-    Changed = 23,
 }
 
 impl Refusal {

@@ -1,6 +1,6 @@
 -- What holds of a judgement's outcome, whatever it is: nothing of a refusal.
 use Rattle.std.proofs.Common.{◌≡◌, ℕ, Bool, true, false, Some, None, Option, refl, subst₂, arith}
-use Rattle.text.specs.declared.refusal.Refused.{Refused}
+use Rattle.script_refusals.specs.declared.refusal.Refused.{Refused}
 use Rattle.typing.specs.Contexts.{Context}
 use Rattle.typing.specs.Judging.{Judged, refused, judged, and_then, need, tested}
 use Rattle.typing.specs.Types.{Ty, int, bool, sym, unit, datum, function}

@@ -3,7 +3,7 @@ use Rattle.std.proofs.Common.{◌≡◌, ℕ, ◌+◌, Bool, true, false, cond, 
 use lib.ListN.{length-map}
 use Rattle.std.specs.Str.{bytes_eq}
 use Rattle.std.proofs.lemmas.Bool.{or_parts, or_from, eq-eqb, eqb-true}
-use Rattle.text.specs.declared.refusal.Refusal.{Refusal}
+use Rattle.script_refusals.specs.declared.refusal.Refusal.{Refusal}
 use Rattle.grammar.specs.Trees as tree
 use Rattle.grammar.specs.Trees.{Ident, TypeExpr, TypeExprs, PatternPart, bound, Expr, Constructor, Definition, datatype_definition, type_annotation, function_definition, val_binding, Script}
 use Rattle.program.specs.Programs.{Name, Program, Bound, Define, program, basis_count, bound_variants, bound_from, annotations_of, datatypes_of}

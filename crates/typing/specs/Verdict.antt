@@ -3,9 +3,9 @@
 use Rattle.std.specs.Prelude.{ℕ, Bool, false, cond, ◌||◌, List, [], ◌∷◌, ◌++◌, map, length, Some, None, codes, Option, ◌==◌}
 use Rattle.std.specs.Str.{bytes_eq}
 use Rattle.text.specs.Scans.{refused_at}
-use Rattle.text.specs.declared.refusal.Refusal.{Refusal}
-use Rattle.text.specs.declared.refusal.Refusal.TheVariants as refusal
-use Rattle.text.specs.declared.refusal.Refused.{Refused}
+use Rattle.script_refusals.specs.declared.refusal.Refusal.{Refusal}
+use Rattle.script_refusals.specs.declared.refusal.Refusal.TheVariants as refusal
+use Rattle.script_refusals.specs.declared.refusal.Refused.{Refused}
 use Rattle.grammar.specs.Trees as tree
 use Rattle.grammar.specs.Trees.{Ident, TypeExpr, TypeExprs, bound, Expr, Constructor, Definition, datatype_definition, type_annotation, function_definition, val_binding, Script}
 use Rattle.program.specs.Programs.{Name, Program, Define, program, first_of}

@@ -5,7 +5,7 @@ use Rattle.layout.specs.Words.{word_at}
 use Rattle.layout.specs.declared.type_node.TypeNode.{TypeNode}
 use Rattle.names.specs.Parts.{part_of}
 use Rattle.text.specs.Scans.{refused_at}
-use Rattle.text.specs.declared.refusal.Refusal.TheVariants as refusal
+use Rattle.script_refusals.specs.declared.refusal.Refusal.TheVariants as refusal
 use Rattle.typing.specs.Verdict.{refused}
 use Rattle.globals.proofs.resolving.shape_of.Goals as goal
 
