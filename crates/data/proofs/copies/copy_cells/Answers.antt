@@ -3,9 +3,9 @@ use Rattle.data.proofs.Copying.{copying_root, root_refused, copying_open, copyin
 use Rattle.cells.specs.Meaning.{at}
 use Rattle.data.proofs.copies.copy_cells.Goals as goal
 
-pub returns-in-err-first : goal.returns-in-err-first
-returns-in-err-first g c =
-    let does = c.in-err-first.ensures.1 in
+pub returns-in_err-first : goal.returns-in_err-first
+returns-in_err-first g c =
+    let does = c.in_err-first.ensures.1 in
     record {
       long = ap length (refused_same does);
       stuck = search rules;
@@ -18,20 +18,20 @@ walk-init g c = (refl, λ old a. a, λ old w ts long enough t. t)
 
 pub returns-then-count-limit : goal.returns-then-count-limit
 returns-then-count-limit g c =
-    let does = c.in-ok-first.ensures in
+    let does = c.in_ok-first.ensures in
     record {
       long = c.walk.invariant.0 ∙ copied_long does;
       stuck = refl;
       keeps = (c.walk.invariant.1 _ (apart_field does (apart_start _ (g.S.CellStore.small c.args.store.now)))).within;
       copies = λ ts reads most enough.
           let t = c.walk.invariant.2 _ _ ts (copied_long does) enough (copying_root _ _ c.args.value _ _ ts does reads (g.S.CellStore.small c.args.store.now)) in
-          absurd (omega (arith, most, copying_open _ _ _ _ ts _ c.walk-test.true t, c.live-count-limit.ensures, c.if-count-limit.true));
+          absurd (omega (arith, most, copying_open _ _ _ _ ts _ c.walk-test.true t, c.live_count-limit.ensures, c.if-count-limit.true));
     }
 
-pub returns-in-err-head : goal.returns-in-err-head
-returns-in-err-head g c =
-    let does = c.in-ok-first.ensures in
-    let turned = c.in-err-head.ensures in
+pub returns-in_err-head : goal.returns-in_err-head
+returns-in_err-head g c =
+    let does = c.in_ok-first.ensures in
+    let turned = c.in_err-head.ensures in
     record {
       long = turned.long ∙ (c.walk.invariant.0 ∙ copied_long does);
       stuck = search rules;
@@ -43,7 +43,7 @@ returns-in-err-head g c =
 
 pub walk-preserved : goal.walk-preserved
 walk-preserved g c =
-    let turned = c.in-ok-head.ensures in (
+    let turned = c.in_ok-head.ensures in (
       turned.long ∙ c.walk.invariant.0,
       λ old a. turned.apart old _ refl (c.walk.invariant.1 old a),
       λ old w ts long enough t₀.
@@ -53,12 +53,12 @@ walk-preserved g c =
 
 pub returns : goal.returns
 returns g c =
-    let does = c.in-ok-first.ensures in
+    let does = c.in_ok-first.ensures in
     record {
       long = c.walk.invariant.0 ∙ copied_long does;
       stuck = tt;
       keeps = (c.walk.invariant.1 _ (apart_field does (apart_start _ (g.S.CellStore.small c.args.store.now)))).within;
       copies = λ ts reads most enough.
           let t = c.walk.invariant.2 _ _ ts (copied_long does) enough (copying_root _ _ c.args.value _ _ ts does reads (g.S.CellStore.small c.args.store.now)) in
-          copied_whole _ _ _ c.in-ok-first.first.value _ ts _ (cc) c.walk-test.false t;
+          copied_whole _ _ _ c.in_ok-first.first.value _ ts _ (cc) c.walk-test.false t;
     }

@@ -5,8 +5,8 @@ use Rattle.data.proofs.copies.copy_field.Goals as goal
 
 pub returns-in-Ok-take : goal.returns-in-Ok-take
 returns-in-Ok-take g c =
-    let put = c.with-spare.ensures in
-    was_cell c.in-Cell.number c.in-Ok.contents c.with-spare.result c.in-Cell.is c.in-Ok.ensures.0 (alike_put put) put.spare_is refl c.in-Ok-take.ensures
+    let put = c.with_spare.ensures in
+    was_cell c.in-Cell.number c.in-Ok.contents c.with_spare.result c.in-Cell.is c.in-Ok.ensures.0 (alike_put put) put.spare_is refl c.in-Ok-take.ensures
 
 pub returns-in-Err-take : goal.returns-in-Err-take
 returns-in-Err-take g c = (refl, was_full c.in-Cell.number _ c.in-Cell.is c.in-Err-take.ensures)

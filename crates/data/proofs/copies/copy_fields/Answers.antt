@@ -13,18 +13,18 @@ use Rattle.data.proofs.Copying.{Fielding, fielding_start, turn_field, field_refu
 use Rattle.data.proofs.Roaming.{no_answer}
 use Rattle.data.proofs.copies.copy_fields.Goals as goal
 
-pub returns-in-err-contents : goal.returns-in-err-contents
-returns-in-err-contents g c = record {
+pub returns-in_err-contents : goal.returns-in_err-contents
+returns-in_err-contents g c = record {
   long = refl;
   stuck = search rules;
   keeps = λ old a. a.within;
-  apart = λ old h e a. absurd (no_answer c.from-residual.ensures.0 e);
-  turns = λ old rest ps ts p inside new enough. absurd (some_none (opened p).is c.in-err-contents.ensures.1);
+  apart = λ old h e a. absurd (no_answer c.from_residual.ensures.0 e);
+  turns = λ old rest ps ts p inside new enough. absurd (some_none (opened p).is c.in_err-contents.ensures.1);
 }
 
 pub loop-i-init : goal.loop-i-init
 loop-i-init g c =
-    let r = c.in-ok-contents.contents in
+    let r = c.in_ok-contents.contents in
     let entry = g.S.CellStore.cells c.args.store.now in
     let n = c.args.cell in
     let e : drop r.used (take r.used r.fields) ≡ [] = drop_all r.used (take r.used r.fields) (omega (arith, length-take-le r.used r.fields (omega (arith, r.six, r.few)))) in (
@@ -40,21 +40,21 @@ loop-i-init g c =
       ),
     )
 
-pub returns-in-err-copied : goal.returns-in-err-copied
-returns-in-err-copied g c =
+pub returns-in_err-copied : goal.returns-in_err-copied
+returns-in_err-copied g c =
     let entry = g.S.CellStore.cells c.args.store.now in
     let real = g.S.CellStore.cells c.loop-i.store in
     let n = c.args.cell in
-    let r = c.in-ok-contents.contents in
+    let r = c.in_ok-contents.contents in
     let i = c.loop-i.i in
-    let here : at entry n ≡ Some r = c.in-ok-contents.ensures.0 in
+    let here : at entry n ≡ Some r = c.in_ok-contents.ensures.0 in
     let now : at real n ≡ Some r = c.loop-i.invariant.1 ∙ here in
-    let does = c.in-err-copied.ensures.1 in
+    let does = c.in_err-copied.ensures.1 in
     record {
       long = ap length (refused_same does) ∙ c.loop-i.invariant.0;
       stuck = search rules;
       keeps = λ old a i q h. subst (λ z. at z i ≡ Some q) (sym (refused_same does)) ((c.loop-i.invariant.4 old (apart_next r here a)).within i q h);
-      apart = λ old h e a. absurd (no_answer c.from-residual-in-err-copied.ensures.0 e);
+      apart = λ old h e a. absurd (no_answer c.from_residual-in_err-copied.ensures.0 e);
       turns = λ old rest ps ts p inside new enough.
           let o = opened p in
           let same : o.holds ≡ r = let x = o.is in cc in
@@ -72,16 +72,16 @@ pub loop-i-preserved : goal.loop-i-preserved
 loop-i-preserved g c =
     let entry = g.S.CellStore.cells c.args.store.now in
     let real = g.S.CellStore.cells c.loop-i.store in
-    let real' = g.S.CellStore.cells c.copy-field.new.store in
+    let real' = g.S.CellStore.cells c.copy_field.new.store in
     let n = c.args.cell in
-    let r = c.in-ok-contents.contents in
+    let r = c.in_ok-contents.contents in
     let i = c.loop-i.i in
-    let w = c.in-ok-copied.copied.value in
-    let here : at entry n ≡ Some r = c.in-ok-contents.ensures.0 in
+    let w = c.in_ok-copied.copied.value in
+    let here : at entry n ≡ Some r = c.in_ok-contents.ensures.0 in
     let now : at real n ≡ Some r = c.loop-i.invariant.1 ∙ here in
-    let does = c.in-ok-copied.ensures in
+    let does = c.in_ok-copied.ensures in
     let fields = c.loop-i.fields in
-    let top = c.in-ok-copied.copied.head in (
+    let top = c.in_ok-copied.copied.head in (
       copied_long does ∙ c.loop-i.invariant.0,
       copied_within does n r now ∙ sym here,
       length-set fields (i - 1) _ ∙ c.loop-i.invariant.2,
@@ -102,9 +102,9 @@ returns-in-Ok g c =
     let entry = g.S.CellStore.cells c.args.store.now in
     let real = g.S.CellStore.cells c.loop-i.store in
     let n = c.args.cell in
-    let r = c.in-ok-contents.contents in
+    let r = c.in_ok-contents.contents in
     let i = c.loop-i.i in
-    let here : at entry n ≡ Some r = c.in-ok-contents.ensures.0 in
+    let here : at entry n ≡ Some r = c.in_ok-contents.ensures.0 in
     let now : at real n ≡ Some r = c.loop-i.invariant.1 ∙ here in
     let zero_left : i ≡ 0 = omega (arith, c.loop-i-test.false) in
     let x = c.in-Ok.ensures.after in

@@ -8,56 +8,56 @@ use Rattle.data.proofs.Roaming.{roams_start, roams_untouched, roams_give, roams_
 use Rattle.data.proofs.Walking.{walk_start, never_lost, walk_turn, walk_done}
 use Rattle.data.proofs.drops.drop_value.Goals as goal
 
-pub returns-in-err-visit : goal.returns-in-err-visit
-returns-in-err-visit g c = record {
+pub returns-in_err-visit : goal.returns-in_err-visit
+returns-in_err-visit g c = record {
   long = c.walk.invariant.0;
   stuck = search rules;
   far = roams_untouched (c.walk.invariant.2 _ _ (roams_start _ c.args.value));
   frees = λ t m₀ k.
       let w = c.walk.invariant.3 (size t) m₀ (walk_start _ _ c.args.value t m₀ refl refl (out_from_keeps m₀ _ _ _ k)) in
-      let go : open_value c.walk.todo ≡ true = sym c.is-open.ensures ∙ c.walk-test.true in
-      absurd (never_lost _ [] c.walk.todo w.0 m₀ go c.in-err-visit.ensures.1 w.2);
+      let go : open_value c.walk.todo ≡ true = sym c.is_open.ensures ∙ c.walk-test.true in
+      absurd (never_lost _ [] c.walk.todo w.0 m₀ go c.in_err-visit.ensures.1 w.2);
 }
 
-pub returns-in-err-todo : goal.returns-in-err-todo
-returns-in-err-todo g c =
-    let does = c.in-err-todo.ensures in
+pub returns-in_err-todo : goal.returns-in_err-todo
+returns-in_err-todo g c =
+    let does = c.in_err-todo.ensures in
     let gave = c.in-Ok.ensures in
-    let freed : g.S.CellStore.cells c.give-back.new.self ≡ set (g.S.CellStore.cells c.walk.store) c.in-ok-visit.visit.cell None = let e = gave.after in cc in
+    let freed : g.S.CellStore.cells c.give_back.new.self ≡ set (g.S.CellStore.cells c.walk.store) c.in_ok-visit.visit.cell None = let e = gave.after in cc in
     record {
       long = does.long ∙ (changed_capacity gave ∙ c.walk.invariant.0);
       stuck = search rules;
       far =
-          let n = roams_found c.walk.todo _ (g.S.CellStore.small c.walk.store) c.in-ok-visit.ensures (c.walk.invariant.2 _ _ (roams_start _ c.args.value)) in
+          let n = roams_found c.walk.todo _ (g.S.CellStore.small c.walk.store) c.in_ok-visit.ensures (c.walk.invariant.2 _ _ (roams_start _ c.args.value)) in
           does.far _ _ (roams_give _ _ n.here freed n.after) n.fields;
       frees = λ t m₀ k.
           let w = c.walk.invariant.3 (size t) m₀ (walk_start _ _ c.args.value t m₀ refl refl (out_from_keeps m₀ _ _ _ k)) in
-          let go : open_value c.walk.todo ≡ true = sym c.is-open.ensures ∙ c.walk-test.true in
-          absurd (walk_turn _ _ _ [] [] c.walk.todo _ w.0 m₀ _ go c.in-ok-visit.ensures freed does w.2);
+          let go : open_value c.walk.todo ≡ true = sym c.is_open.ensures ∙ c.walk-test.true in
+          absurd (walk_turn _ _ _ [] [] c.walk.todo _ w.0 m₀ _ go c.in_ok-visit.ensures freed does w.2);
     }
 
-pub overflow-add-count : goal.overflow-add-count
-overflow-add-count g c =
+pub overflow_add-count : goal.overflow_add-count
+overflow_add-count g c =
     let few : c.walk.count ≤ 65535 = omega (arith, c.walk.invariant.1, count_le (g.S.CellStore.cells c.args.store.now), g.S.CellStore.small c.args.store.now) in
     search rules
 
 pub walk-smaller : goal.walk-smaller
-walk-smaller g c = omega (arith, c.in-ok-todo.ensures.live, given_count c.in-Ok.ensures)
+walk-smaller g c = omega (arith, c.in_ok-todo.ensures.live, given_count c.in-Ok.ensures)
 
 pub walk-preserved : goal.walk-preserved
 walk-preserved g c =
-    let does = c.in-ok-todo.ensures in
+    let does = c.in_ok-todo.ensures in
     let gave = c.in-Ok.ensures in
-    let freed : g.S.CellStore.cells c.give-back.new.self ≡ set (g.S.CellStore.cells c.walk.store) c.in-ok-visit.visit.cell None = let e = gave.after in cc in
-    let go : open_value c.walk.todo ≡ true = sym c.is-open.ensures ∙ c.walk-test.true in (
+    let freed : g.S.CellStore.cells c.give_back.new.self ≡ set (g.S.CellStore.cells c.walk.store) c.in_ok-visit.visit.cell None = let e = gave.after in cc in
+    let go : open_value c.walk.todo ≡ true = sym c.is_open.ensures ∙ c.walk-test.true in (
       does.long ∙ (changed_capacity gave ∙ c.walk.invariant.0),
       omega (arith, c.walk.invariant.1, does.live, given_count gave),
       λ m root w.
-          let n = roams_found c.walk.todo _ (g.S.CellStore.small c.walk.store) c.in-ok-visit.ensures (c.walk.invariant.2 m root w) in
+          let n = roams_found c.walk.todo _ (g.S.CellStore.small c.walk.store) c.in_ok-visit.ensures (c.walk.invariant.2 m root w) in
           does.roams m root _ refl (roams_give _ _ n.here freed n.after) n.fields,
       λ k after a.
           let w = c.walk.invariant.3 k after a in
-          let t = walk_turn _ _ _ [] [] c.walk.todo _ w.0 after _ go c.in-ok-visit.ensures freed does w.2 in
+          let t = walk_turn _ _ _ [] [] c.walk.todo _ w.0 after _ go c.in_ok-visit.ensures freed does w.2 in
           (t.0, omega (arith, t.1, w.1), t.2.ahead),
     )
 
@@ -68,7 +68,7 @@ returns g c = record {
   far = roams_untouched (c.walk.invariant.2 _ _ (roams_start _ c.args.value));
   frees = λ t m₀ k.
       let w = c.walk.invariant.3 (size t) m₀ (walk_start _ _ c.args.value t m₀ refl refl (out_from_keeps m₀ _ _ _ k)) in
-      let shut : open_value c.walk.todo ≡ false = sym c.is-open.ensures ∙ c.walk-test.false in
+      let shut : open_value c.walk.todo ≡ false = sym c.is_open.ensures ∙ c.walk-test.false in
       let d = walk_done _ c.walk.todo w.0 m₀ shut w.2 in
       (ap Ok (omega (arith, w.1, d.1)), d.0);
 }

@@ -7,19 +7,19 @@ use Rattle.data.proofs.work_list.add_fields.Goals as goal
 pub loop-i-init : goal.loop-i-init
 loop-i-init g c = (refl, refl, respared_none _, λ m root w can. w, λ done ts mid after k a w. add_start _ done _ ts mid after _ k refl a w)
 
-pub returns-in-err-todo : goal.returns-in-err-todo
-returns-in-err-todo g c =
+pub returns-in_err-todo : goal.returns-in_err-todo
+returns-in_err-todo g c =
     let i = c.loop-i.i in
     let fields = c.args.contents.fields in
     let enough : i ≤ length fields = omega (arith, c.args.contents.six, c.loop-i.auto.i, c.args.contents.few) in
-    let does = c.in-err-todo.ensures in
+    let does = c.in_err-todo.ensures in
     record {
       long = does.long ∙ c.loop-i.invariant.0;
       live = does.live ∙ c.loop-i.invariant.1;
       same = respared_more c.loop-i.invariant.2 does.same;
       stuck = search rules;
       far = λ m root w can. does.far m root (c.loop-i.invariant.3 m root w can);
-      roams = λ m root new e w can. absurd (no_answer c.from-residual.ensures.0 e);
+      roams = λ m root new e w can. absurd (no_answer c.from_residual.ensures.0 e);
       puts = λ done ts mid after k a w.
           absurd (add_turn _ _ _ done (take i fields) (take (i - 1) fields) _ _ _ after _ does (take_back fields i _ c.loop-i-test.true enough) (c.loop-i.invariant.4 done ts mid after k a w));
     }
@@ -29,7 +29,7 @@ loop-i-preserved g c =
     let i = c.loop-i.i in
     let fields = c.args.contents.fields in
     let enough : i ≤ length fields = omega (arith, c.args.contents.six, c.loop-i.auto.i, c.args.contents.few) in
-    let does = c.in-ok-todo.ensures in (
+    let does = c.in_ok-todo.ensures in (
       does.long ∙ c.loop-i.invariant.0,
       does.live ∙ c.loop-i.invariant.1,
       respared_more c.loop-i.invariant.2 does.same,

@@ -11,16 +11,16 @@ use Rattle.data.proofs.Roaming.{roams_untouched, roams_push, no_answer, roams_he
 use Rattle.data.proofs.Walking.{not_cell, push_plain, push_cell, pushed_live}
 use Rattle.data.proofs.work_list.push.Goals as goal
 
-pub returns-in-err-contents : goal.returns-in-err-contents
-returns-in-err-contents g c =
-    let lost = c.in-err-contents.ensures in
+pub returns-in_err-contents-in-Cell : goal.returns-in_err-contents-in-Cell
+returns-in_err-contents-in-Cell g c =
+    let lost = c.in_err-contents-in-Cell.ensures in
     record {
       long = refl;
       live = refl;
       same = respared_none _;
       stuck = search rules;
       far = λ m root w. roams_untouched w;
-      roams = λ m root h e w. absurd (no_answer c.from-residual.ensures.0 e);
+      roams = λ m root h e w. absurd (no_answer c.from_residual.ensures.0 e);
       puts = λ done vs ts us m mid after k a b w.
           let t = pushed_live (g.S.CellStore.cells c.args.store.now) done c.in-Cell.number a (subst (λ v. Out m (v ∷ []) us mid) c.in-Cell.is b) in
           absurd (some_none t.1 lost.1);
@@ -30,10 +30,10 @@ pub returns-in-Ok : goal.returns-in-Ok
 returns-in-Ok g c =
     let entry = g.S.CellStore.cells c.args.store.now in
     let n = c.in-Cell.number in
-    let r = c.in-ok-contents.contents in
-    let q = c.with-spare.result in
-    let put = c.with-spare.ensures in
-    let seen = c.in-ok-contents.ensures in
+    let r = c.in_ok-contents-in-Cell.contents in
+    let q = c.with_spare.result in
+    let put = c.with_spare.ensures in
+    let seen = c.in_ok-contents-in-Cell.ensures in
     let wrote = c.in-Ok.ensures in
     let exit = g.S.CellStore.cells c.write.new.self in
     let link : q.spare ≡ c.args.head = let e = put.spare_is in cc in
@@ -51,13 +51,13 @@ returns-in-Ok g c =
           a (subst (λ v. Out m (v ∷ []) us mid) c.in-Cell.is b) w;
     }
 
-pub returns-in-default : goal.returns-in-default
-returns-in-default g c = record {
+pub returns-in_default : goal.returns-in_default
+returns-in_default g c = record {
   long = refl;
   live = refl;
   same = respared_none _;
   stuck = tt;
   far = λ m root w. roams_untouched w;
   roams = λ m root h e w. roams_head e w;
-  puts = λ done vs ts us m mid after k a b w. push_plain _ done vs ts us m mid after c.args.value c.args.head k (not_cell c.args.value c.in-default.not-Cell) a b w;
+  puts = λ done vs ts us m mid after k a b w. push_plain _ done vs ts us m mid after c.args.value c.args.head k (not_cell c.args.value c.in_default.not-Cell) a b w;
 }
