@@ -1,26 +1,25 @@
 -- Laws of a copy under way.
-use Rattle.std.proofs.Common.{◌≡◌, ℕ, zero, suc, ◌+◌, ◌-◌, ◌<◌, ◌≤◌, Bool, true, false, ◌⊎◌, List, [], ◌∷◌, ◌++◌, length, take, drop, set, is_ok, Some, None, Ok, Err, Option, Result, sym, refl, ap, ◌∙◌, subst, inl, inr, ⊎_elim, arith}
+use Rattle.std.proofs.Common.{◌≡◌, ℕ, zero, suc, ◌+◌, ◌-◌, ◌<◌, ◌≤◌, false, List, [], ◌∷◌, ◌++◌, length, take, drop, set, is_ok, Some, None, Ok, Err, Option, Result, sym, refl, ap, ◌∙◌, subst, ⊎_elim, arith}
 use Rattle.std.proofs.lemmas.Bool.{cases_eq, true≢false}
 use Rattle.std.proofs.lemmas.List.{set_comm, set-set, length-set}
 use Rattle.cells.specs.declared.values.Value.{Value}
 use Rattle.cells.specs.declared.values.Value.TheVariants.{Cell}
 use Rattle.cells.specs.declared.records.CellRecord.{CellRecord}
-use Rattle.cells.specs.declared.refusals.StoreRefusal.{StoreRefusal}
 use Rattle.cells.specs.Values.{is_cell}
 use Rattle.cells.specs.Records.{row}
-use Rattle.cells.specs.Meaning.{Cells, at, count_live, one, TakenAt, Full}
+use Rattle.cells.specs.Meaning.{Cells, at, count_live, one}
 use Rattle.cells.proofs.CellLaws.{count_set, full_count}
 use Rattle.cells.proofs.Calls.{at_other, at_put, at_cleared, taken_live}
 use Rattle.data.specs.declared.refusals.WalkRefusal.{WalkRefusal}
-use Rattle.data.specs.declared.refusals.WalkRefusal.TheVariants.{NoFreeCell, Stuck}
+use Rattle.data.specs.declared.refusals.WalkRefusal.TheVariants.{NoFreeCell}
 use Rattle.data.specs.Trees.{Tree, Trees, built, none, more, size, sizes}
 use Rattle.data.specs.Standing.{Plain}
 use Rattle.data.specs.Taking.{Out, out_none, out_plain, out_cell}
-use Rattle.data.specs.Alike.{Alike, Respared, Kept}
+use Rattle.data.specs.Alike.{Respared, Kept}
 use Rattle.data.specs.Reaching.{Reached, Untouched}
 use Rattle.data.specs.Walks.{CopySays}
 use Rattle.data.specs.Refusals.{Okay, OnlyStuck}
-use Rattle.data.specs.Copying.{Reads, reads_none, reads_plain, reads_cell, Within, below, owed, Pend, pend_end, pend_on, FieldCopied, was_plain, was_cell, FieldRefused, was_dead, was_full, Turned, Turns, Apart}
+use Rattle.data.specs.Copying.{Reads, reads_none, reads_plain, reads_cell, Within, owed, Pend, pend_end, pend_on, FieldCopied, was_plain, was_cell, FieldRefused, was_dead, was_full, Turned, Turns, Apart}
 use Rattle.data.proofs.Stores.{some_none, within, at_past, cleared_or_same, set_back}
 use Rattle.data.proofs.Roaming.{ok_same}
 use Rattle.data.proofs.Outs.{not_plain, plain_size, join, join_join, join_none, sizes_join, was, alike_row, joined, Two, out_nothing}

@@ -1,13 +1,11 @@
 -- Taking out and keeping are the same.
-use Rattle.std.proofs.Common.{◌≡◌, ℕ, ◌⊎◌, List, [], ◌∷◌, ◌++◌, length, set, Some, None, sym, refl, ap, ◌∙◌, subst, inl, inr, ⊎_elim}
+use Rattle.std.proofs.Common.{◌≡◌, ℕ, ◌⊎◌, List, [], ◌∷◌, ◌++◌, length, set, None, sym, refl, ap, ◌∙◌, subst, inl, inr, ⊎_elim}
 use Rattle.std.proofs.lemmas.Bool.{cases_eq}
 use Rattle.std.proofs.lemmas.List.{length-set}
 use Rattle.cells.specs.declared.values.Value.{Value}
-use Rattle.cells.specs.declared.values.Value.TheVariants.{Cell}
-use Rattle.cells.specs.declared.records.CellRecord.{CellRecord}
 use Rattle.cells.specs.Meaning.{Cells, at}
 use Rattle.cells.proofs.Calls.{at_other, at_cleared}
-use Rattle.data.specs.Trees.{Tree, Trees, built, none, more}
+use Rattle.data.specs.Trees.{Tree, Trees, none, more}
 use Rattle.data.specs.Standing.{Fills, FillsAll, fills_plain, fills_cell, fills_none, fills_more, Among, among_first, among_later, Distinct, distinct_none, distinct_more, less, Keeps}
 use Rattle.data.specs.Taking.{Out, out_none, out_plain, out_cell, SameAsKeeping, KeepsWhatStands}
 use Rattle.data.specs.Copying.{Within}

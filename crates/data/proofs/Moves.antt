@@ -1,6 +1,6 @@
 -- How a row of held values changes with the steps of a run: a value is moved, built, taken apart, copied, dropped or let go.
 -- In each law m₀ is what the store holds beside the row.
-use Rattle.std.proofs.Common.{◌≡◌, ℕ, ◌+◌, ◌<◌, ◌≤◌, List, [], ◌∷◌, ◌++◌, length, set, Some, None, Ok, Err, Result, sym, refl, ap, ◌∙◌, subst, arith}
+use Rattle.std.proofs.Common.{◌≡◌, ℕ, ◌+◌, ◌<◌, ◌≤◌, List, [], ◌∷◌, ◌++◌, length, set, Some, None, Ok, Err, Result, sym, refl, ap, ◌∙◌, subst}
 use Rattle.std.proofs.lemmas.List.{set-set}
 use Rattle.cells.specs.declared.values.Value.{Value}
 use Rattle.cells.specs.declared.values.Value.TheVariants.{Cell}
@@ -10,8 +10,8 @@ use Rattle.cells.specs.Meaning.{Cells, at, count_live, TakenAt}
 use Rattle.cells.proofs.Calls.{taken_live}
 use Rattle.data.specs.declared.refusals.WalkRefusal.{WalkRefusal}
 use Rattle.data.specs.declared.refusals.WalkRefusal.TheVariants.{NoFreeCell}
-use Rattle.data.specs.Trees.{Tree, Trees, built, none, more, size, sizes}
-use Rattle.data.specs.Standing.{Plain, Keeps}
+use Rattle.data.specs.Trees.{Tree, Trees, built, none, more, size}
+use Rattle.data.specs.Standing.{Plain}
 use Rattle.data.specs.Taking.{Out, out_none, out_plain, out_cell}
 use Rattle.data.specs.Walks.{Sizes, Drops, Copies}
 use Rattle.data.proofs.Stores.{set_back}

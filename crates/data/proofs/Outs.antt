@@ -1,11 +1,10 @@
 -- Laws of taking data out of a store.
-use Rattle.std.proofs.Common.{◌≡◌, ℕ, ◌+◌, ◌<◌, Bool, true, false, ◌⊎◌, List, [], ◌∷◌, ◌++◌, length, set, Some, None, Option, sym, refl, ap, ◌∙◌, subst, inl, inr, ⊎_elim, arith}
+use Rattle.std.proofs.Common.{◌≡◌, ℕ, ◌+◌, ◌⊎◌, List, [], ◌∷◌, ◌++◌, length, set, Some, None, Option, sym, refl, ap, ◌∙◌, subst, inl, inr, ⊎_elim, arith}
 use Rattle.std.proofs.lemmas.Bool.{cases_eq}
 use Rattle.std.proofs.lemmas.List.{set_comm, set-set, length-set}
 use Rattle.cells.specs.declared.values.Value.{Value}
-use Rattle.cells.specs.declared.values.Value.TheVariants.{Int, Bool as Truth, Sym, Unit as Nothing, Function, Cell}
+use Rattle.cells.specs.declared.values.Value.TheVariants.{Cell}
 use Rattle.cells.specs.declared.records.CellRecord.{CellRecord}
-use Rattle.cells.specs.Values.{is_cell}
 use Rattle.cells.specs.Records.{row}
 use Rattle.cells.specs.Meaning.{Cells, at, count_live, one}
 use Rattle.cells.proofs.CellLaws.{count_set}

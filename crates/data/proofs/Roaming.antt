@@ -1,5 +1,5 @@
 -- A walk on any store touches only what it can reach.
-use Rattle.std.proofs.Common.{◌≡◌, ℕ, zero, suc, ◌<◌, ◌≤◌, true, ◌⊎◌, List, [], ◌∷◌, length, get_or, take, set, is_err, Some, None, Ok, Err, Result, sym, refl, ap, ◌∙◌, subst, inl, inr, ⊎_elim, arith}
+use Rattle.std.proofs.Common.{◌≡◌, ℕ, zero, suc, ◌<◌, ◌≤◌, true, List, [], ◌∷◌, length, get_or, take, set, is_err, Some, None, Ok, Result, sym, refl, ap, ◌∙◌, subst, inl, inr, ⊎_elim, arith}
 use Rattle.data.specs.declared.refusals.WalkRefusal.{WalkRefusal}
 use Rattle.std.proofs.lemmas.Bool.{cases_eq, false≢true}
 use Rattle.cells.specs.declared.values.Value.{Value}
@@ -14,7 +14,7 @@ use Rattle.data.specs.Standing.{Among, among_first, among_later}
 use Rattle.data.specs.Alike.{Alike}
 use Rattle.data.specs.Reaching.{HasCell, has_first, has_later, Reached, reached_root, reached_field, Untouched}
 use Rattle.data.specs.WorkLists.{On, Roams, CanReach, Found, by_value, by_list}
-use Rattle.data.proofs.Stores.{some_none, within}
+use Rattle.data.proofs.Stores.{within}
 use Rattle.data.proofs.Outs.{alike_row}
 use Rattle.data.proofs.Keeping.{cleared_within}
 

@@ -1,5 +1,5 @@
 -- Laws of the work list: the one argument that the walks share.
-use Rattle.std.proofs.Common.{◌≡◌, ℕ, ◌+◌, ◌-◌, ◌<◌, ◌≤◌, Bool, true, false, not, ◌||◌, eqb, List, [], ◌∷◌, ◌++◌, length, get_or, take, set, Some, None, Ok, Err, Result, sym, refl, ap, ◌∙◌, subst, ⊎_elim, arith}
+use Rattle.std.proofs.Common.{◌≡◌, ℕ, ◌+◌, ◌-◌, ◌<◌, ◌≤◌, true, false, not, eqb, List, [], ◌∷◌, ◌++◌, length, get_or, take, set, Some, None, Ok, Err, Result, sym, refl, ap, ◌∙◌, subst, ⊎_elim, arith}
 use Rattle.std.proofs.lemmas.Bool.{true≢false, eqb-false, eqb-true, or_cases, or_parts, not-true, not-false, both_ways}
 use Rattle.std.proofs.lemmas.List.{set-set, take_more}
 use Rattle.cells.specs.declared.values.Value.{Value}
@@ -7,19 +7,19 @@ use Rattle.cells.specs.declared.values.Value.TheVariants.{Int, Bool as Truth, Sy
 use Rattle.cells.specs.declared.records.CellRecord.{CellRecord}
 use Rattle.cells.specs.Values.{is_cell}
 use Rattle.cells.specs.Records.{row}
-use Rattle.cells.specs.Meaning.{Cells, at, count_live}
+use Rattle.cells.specs.Meaning.{Cells, at}
 use Rattle.cells.proofs.Calls.{at_cleared, at_put}
 use Rattle.data.specs.declared.refusals.WalkRefusal.{WalkRefusal}
 use Rattle.data.specs.declared.todo.Todo.{Todo}
 use Rattle.data.specs.declared.visit.Visit.{Visit}
-use Rattle.data.specs.Trees.{Tree, Trees, built, none, more, size, sizes, unit}
-use Rattle.data.specs.Standing.{Plain, plain_unit, less}
+use Rattle.data.specs.Trees.{Tree, Trees, none, more, size, sizes, unit}
+use Rattle.data.specs.Standing.{plain_unit, less}
 use Rattle.data.specs.Taking.{Out, out_none, out_plain, out_cell}
 use Rattle.data.specs.Alike.{Alike}
 use Rattle.data.specs.Refusals.{Okay}
 use Rattle.data.specs.WorkLists.{Work, work_end, work_on, Ahead, open_value, Found, by_value, by_list, Lost, value_lost, list_lost, Pushed, Pushes, Added, Adds, Listed, AddsAll, Stands}
 use Rattle.data.proofs.Stores.{some_none, within, cleared_or_same, less_live, less_set}
-use Rattle.data.proofs.Outs.{not_plain, plain_size, join, sizes_join, stays_free, was, frame, parts, tally, out_tally, parts_at, joined, out_nothing, alike_row, respare}
+use Rattle.data.proofs.Outs.{not_plain, plain_size, join, sizes_join, stays_free, was, frame, parts, out_tally, parts_at, joined, out_nothing, alike_row, respare}
 
 -- a row of values being put ahead, the last first: so far down to vs, total cells in all
 pub record Adding (done : List ℕ) (start current : Cells) (vs : List Value) (todo : Todo) (total : ℕ) (after : Cells) : Type 0 where

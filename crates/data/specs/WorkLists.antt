@@ -1,5 +1,5 @@
 -- The work list of a walk, threaded through the spare numbers of the cells.
-use Rattle.std.specs.Prelude.{◌≡◌, ℕ, ◌+◌, ◌<◌, Bool, true, false, not, ◌||◌, ◌⊎◌, List, [], ◌∷◌, length, Some, None, Ok, Err, Result, ◌==◌, slice_set}
+use Rattle.std.specs.Prelude.{◌≡◌, ℕ, ◌+◌, ◌<◌, Bool, false, not, ◌||◌, ◌⊎◌, List, [], ◌∷◌, length, Some, None, Ok, Err, Result, ◌==◌, slice_set}
 use Rattle.cells.specs.declared.values.Value.{Value}
 use Rattle.cells.specs.declared.values.Value.TheVariants.{Unit as Nothing, Cell}
 use Rattle.cells.specs.declared.records.CellRecord.{CellRecord}

@@ -1,4 +1,4 @@
-use Rattle.std.proofs.Common.{◌≡◌, ℕ, ◌+◌, ◌-◌, ◌≤◌, length}
+use Rattle.std.proofs.Common.{◌≡◌, ◌+◌, ◌-◌, ◌≤◌, length}
 use Rattle.cells.specs.declared.values.Value.{Value}
 use Rattle.cells.specs.Meaning.{Cells, count_live}
 use Rattle.data.specs.Trees.{Trees, sizes}

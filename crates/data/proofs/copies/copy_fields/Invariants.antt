@@ -1,4 +1,4 @@
-use Rattle.std.proofs.Common.{◌≡◌, ℕ, ◌+◌, ◌≤◌, List, length, take, drop, set, None}
+use Rattle.std.proofs.Common.{◌≡◌, ◌+◌, ◌≤◌, List, length, take, drop, set, None}
 use Rattle.cells.specs.declared.values.Value.{Value}
 use Rattle.cells.specs.Meaning.{Cells, at, count_live}
 use Rattle.data.specs.Trees.{Trees, sizes}

@@ -1,7 +1,7 @@
-use Rattle.std.proofs.Common.{◌≡◌, ◌+◌, ◌<◌, ◌≤◌, leb, length, is_ok, sym, refl, ap, ◌∙◌, arith, rules}
+use Rattle.std.proofs.Common.{◌≡◌, ◌+◌, ◌≤◌, leb, length, is_ok, refl, ap, ◌∙◌, arith}
 use Rattle.std.proofs.lemmas.Bool.{false≢true, leb-true, leb-false}
 use Rattle.cells.specs.Meaning.{count_live}
-use Rattle.data.specs.Trees.{size, sizes, more, none}
+use Rattle.data.specs.Trees.{size, more, none}
 use Rattle.data.proofs.Outs.{out_count}
 use Rattle.data.proofs.Keeping.{out_from_keeps}
 use Rattle.data.proofs.Copying.{copy_says, copy_kept, copy_far, out_reads, only_stuck}

@@ -1,4 +1,4 @@
-use Rattle.std.proofs.Common.{◌≡◌, ◌≤◌, true, false, [], ◌∷◌, Ok, sym, refl, ap, ◌∙◌, arith, rules}
+use Rattle.std.proofs.Common.{◌≡◌, true, false, [], ◌∷◌, Ok, sym, refl, ap, ◌∙◌, arith, rules}
 use Rattle.cells.proofs.CellLaws.{count_le}
 use Rattle.data.specs.Trees.{none, more, size}
 use Rattle.data.specs.WorkLists.{open_value}

@@ -1,4 +1,4 @@
-use Rattle.std.proofs.Common.{◌≡◌, ◌-◌, ◌≤◌, length, take, refl, ◌∙◌, arith, rules}
+use Rattle.std.proofs.Common.{◌-◌, ◌≤◌, length, take, refl, ◌∙◌, arith, rules}
 use Rattle.data.proofs.Spares.{respared_none, respared_more}
 use Rattle.data.proofs.Roaming.{roams_untouched, no_answer, roams_todo, can_reach_one, has_at}
 use Rattle.data.proofs.Walking.{take_back, take_zero, add_start, add_turn, add_end}

@@ -1,6 +1,6 @@
-use Rattle.std.proofs.Common.{◌≡◌, [], ◌∷◌, Some, sym, refl, ◌∙◌, subst, rules}
+use Rattle.std.proofs.Common.{◌≡◌, [], ◌∷◌, sym, refl, subst, rules}
 use Rattle.cells.specs.declared.values.Value.{Value}
-use Rattle.cells.specs.Meaning.{Cells, at}
+use Rattle.cells.specs.Meaning.{Cells}
 use Rattle.cells.proofs.Calls.{changed_capacity, written_count}
 use Rattle.data.specs.Alike.{Respared}
 use Rattle.data.specs.Taking.{Out}
