@@ -1,5 +1,5 @@
 -- Single tokens and the claim of a node, in the code and in the rules.
-use Rattle.std.proofs.Common.{◌≡◌, ℕ, ◌+◌, ◌<◌, ◌≤◌, min, Bool, true, false, cond, ltb, List, [], ◌∷◌, length, set, Some, None, Ok, Err, Option, Result, sym, refl, ap, ◌∙◌, subst, arith}
+use Rattle.std.proofs.Common.{◌≡◌, ℕ, ◌+◌, min, Bool, true, false, cond, ltb, List, [], ◌∷◌, length, set, Some, None, Ok, Err, Option, Result, sym, refl, ap, ◌∙◌, subst, arith}
 use Rattle.text.specs.Grammar.{Spelt}
 use Rattle.text.specs.Scans.{refused_at}
 use Rattle.text.specs.Tokens.{Lexed, lexed_from}
@@ -13,12 +13,11 @@ use Rattle.syntax.specs.Atoms.{keyword_form, leaf_form, claimed}
 use Rattle.syntax.specs.Encoding.{node, encode}
 use Rattle.syntax.specs.Forms.{is_key}
 use Rattle.syntax.specs.Progress.{Told, puts}
-use Rattle.syntax.specs.Reading.{Tally, Outcome, refused, made, wrong, count_node, keyword_expr, atom_expr, expr_atom}
+use Rattle.syntax.specs.Reading.{Tally, Outcome, refused, made, count_node, keyword_expr, atom_expr, expr_atom}
 use Rattle.syntax.specs.Trees.{Expr, integer, symbol, boolean, unit, name}
 use Rattle.syntax.specs.declared.node.Node.{Node}
 use Rattle.syntax.specs.declared.node.NodeForm.{NodeForm}
 use Rattle.syntax.specs.declared.node.NodeForm.TheVariants as form
-use Rattle.syntax.specs.declared.spot.Spot.{Spot}
 
 clash : ◌≡◌ {A = ℕ} 0 1 → ⊥
 clash z = omega arith

@@ -1,9 +1,9 @@
 -- The form of a list, by its head and its number of parts.
-use Rattle.std.proofs.Common.{◌≡◌, ℕ, zero, suc, ◌+◌, ◌<◌, Bool, true, false, cond, eqb, ltb, Some, None, Option, sym, refl, ap, ◌∙◌, arith, lt-ltb, ne_eqb}
+use Rattle.std.proofs.Common.{suc, cond, eqb, ltb, Some, None, Option, arith, lt-ltb, ne_eqb}
 use Rattle.text.specs.declared.keyword.Keyword.{Keyword}
 use Rattle.text.specs.declared.keyword.Keyword.TheVariants as keyword
-use Rattle.syntax.specs.Forms.{Two, two, not_two, two_of, Three, three, not_three, three_of, Form, if_form_rule, begin_form_rule, let_form_rule, case_form_rule, dup_form_rule, apply_form, no_form, if_form, let_form, begin_form, case_form, dup_form, head_of, headed, form_named}
-use Rattle.syntax.specs.Kinds.{kind_headed, form_kind}
+use Rattle.syntax.specs.Forms.{two_of, three_of, Form, if_form_rule, begin_form_rule, let_form_rule, case_form_rule, dup_form_rule, apply_form, no_form, if_form, let_form, begin_form, case_form, dup_form, head_of, headed, form_named}
+use Rattle.syntax.specs.Kinds.{form_kind}
 use Rattle.syntax.specs.Sexps.{Sexp, Sexps, nil, cons}
 use Rattle.syntax.specs.Streams.{count, first_head}
 use Rattle.syntax.specs.declared.form.FormKind.{FormKind}

@@ -1,6 +1,6 @@
 -- What stands next, as a token by itself or a list.
-use Rattle.std.proofs.Common.{◌≡◌, ℕ, ◌+◌, ◌<◌, ◌≤◌, List, length, Ok, Err, Result, sym, refl, ap, ◌∙◌, subst, arith}
-use Rattle.text.specs.Grammar.{NoBracket, Spelt}
+use Rattle.std.proofs.Common.{◌≡◌, ℕ, List, Ok, Err, sym, refl, ap, ◌∙◌, subst, arith}
+use Rattle.text.specs.Grammar.{NoBracket}
 use Rattle.text.specs.Scans.{refused_at}
 use Rattle.text.specs.Tokens.{Lexeme, lexeme, Lexed, also, lexed_from}
 use Rattle.text.specs.declared.bracket.Bracket.{Bracket}
@@ -9,11 +9,10 @@ use Rattle.text.specs.declared.refusal.Refusal.TheVariants as refusal
 use Rattle.text.specs.declared.token.TokenKind.{TokenKind}
 use Rattle.text.specs.declared.token.TokenKind.TheVariants as kind
 use Rattle.syntax.specs.Looks.{Seen, Named}
-use Rattle.syntax.specs.Reading.{Tally, Outcome, refused, made, name_of, name_read}
+use Rattle.syntax.specs.Reading.{Tally, refused, name_of, name_read}
 use Rattle.syntax.specs.Rows.{closed_by}
-use Rattle.syntax.specs.Sexps.{Sexp, atom, list, Sexps, nil, cons, opening, Atoms, AllAtoms}
-use Rattle.syntax.specs.Streams.{stream, streams}
-use Rattle.syntax.specs.declared.names.NameAt.{NameAt}
+use Rattle.syntax.specs.Sexps.{Sexp, atom, list, Sexps, opening, Atoms, AllAtoms}
+use Rattle.syntax.specs.Streams.{stream}
 
 clash : ◌≡◌ {A = ℕ} 0 1 → ⊥
 clash z = omega arith

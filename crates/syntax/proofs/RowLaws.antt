@@ -1,14 +1,14 @@
 -- One part more of a list, and its end.
-use Rattle.std.proofs.Common.{◌≡◌, ℕ, ◌+◌, ◌<◌, ◌≤◌, List, [], ◌∷◌, ◌++◌, length, set, Ok, Err, Result, sym, refl, ap, ◌∙◌, subst, add-zero, add_assoc, arith}
+use Rattle.std.proofs.Common.{◌≡◌, ℕ, ◌+◌, List, [], ◌∷◌, ◌++◌, length, set, Ok, Err, sym, refl, ap, ◌∙◌, subst, add-zero, arith}
 use Rattle.std.proofs.lemmas.List.{append-nil, append_assoc, length-append, length-set}
-use Rattle.text.specs.Tokens.{Lexeme, lexeme, Lexed, also, lexed_from}
+use Rattle.text.specs.Tokens.{lexeme, Lexed, also, lexed_from}
 use Rattle.text.specs.declared.bracket.Bracket.{Bracket}
 use Rattle.text.specs.declared.refusal.Refused.{Refused}
 use Rattle.syntax.specs.Progress.{puts, Told}
 use Rattle.syntax.specs.Reading.{Tally, Outcome, refused, made, and_then}
 use Rattle.syntax.specs.Rows.{closed_by, read_each, encode_each, Along}
-use Rattle.syntax.specs.Looks.{Seen, NotClosing, Closes}
-use Rattle.syntax.specs.Sexps.{Sexp, atom, list, Sexps, nil, cons, opening, Atoms, AllAtoms}
+use Rattle.syntax.specs.Looks.{Seen, NotClosing}
+use Rattle.syntax.specs.Sexps.{Sexp, atom, list, Sexps, nil, cons, opening, AllAtoms}
 use Rattle.text.specs.Grammar.{NoBracket}
 use Rattle.text.specs.declared.token.TokenKind.TheVariants as kind
 use Rattle.syntax.specs.Streams.{stream}

@@ -1,5 +1,5 @@
 -- A survey of a list answers its head and its number of parts.
-use Rattle.std.proofs.Common.{◌≡◌, ℕ, zero, suc, ◌+◌, ◌-◌, ◌<◌, Bool, true, false, cond, eqb, ltb, None, Option, sym, refl, ap, ◌∙◌, arith, lt-ltb, ne_eqb}
+use Rattle.std.proofs.Common.{◌≡◌, ℕ, suc, ◌+◌, ◌-◌, true, false, cond, eqb, ltb, None, Option, refl, ap, ◌∙◌, arith, lt-ltb, ne_eqb}
 use Rattle.text.specs.Grammar.{NoBracket}
 use Rattle.text.specs.Tokens.{Lexeme, lexeme, Lexed, done, fault, also}
 use Rattle.text.specs.declared.bracket.Bracket.{Bracket}
@@ -7,9 +7,9 @@ use Rattle.text.specs.declared.keyword.Keyword.{Keyword}
 use Rattle.text.specs.declared.token.TokenKind.{TokenKind}
 use Rattle.text.specs.declared.token.TokenKind.TheVariants as kind
 use Rattle.syntax.specs.Forms.{kind_head, head_of}
-use Rattle.syntax.specs.Sexps.{Sexp, atom, list, Sexps, nil, cons, opening, closing, Atoms, AllAtoms}
+use Rattle.syntax.specs.Sexps.{Sexp, atom, list, Sexps, nil, cons, closing, Atoms, AllAtoms}
 use Rattle.syntax.specs.Streams.{stream, streams, count, first_head}
-use Rattle.syntax.specs.Surveys.{nothing, after_open, after_close, after_atom, surveyed}
+use Rattle.syntax.specs.Surveys.{nothing, after_atom, surveyed}
 use Rattle.syntax.specs.declared.survey.Survey.{Survey}
 
 -- where no token is left

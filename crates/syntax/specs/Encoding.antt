@@ -1,7 +1,7 @@
 -- How an expression lies in the node list: one node for each expression, branch and let binding, in the order of their first bytes, each
 -- followed by its parts, with the number of the node after the last of them.
 use Rattle.std.specs.Prelude.{ℕ, ◌+◌, List, [], ◌∷◌, ◌++◌, length}
-use Rattle.syntax.specs.Limits.{expr_nodes, exprs_nodes, bindings_nodes, branches_nodes}
+use Rattle.syntax.specs.Limits.{expr_nodes, bindings_nodes}
 use Rattle.syntax.specs.Trees.{Pattern, wildcard, constructor, Expr, integer, symbol, boolean, unit, name, if_expr, begin_expr, let_expr, case_expr, dup_expr, apply_expr, Exprs, no_exprs, and_expr, Bindings, no_bindings, and_binding, Branches, last_branch, and_branch}
 use Rattle.syntax.specs.declared.node.Node.{Node}
 use Rattle.syntax.specs.declared.node.NodeForm.{NodeForm}

@@ -4,7 +4,7 @@ use Rattle.text.specs.Tokens.{lexeme, Lexed, also, lexed_from}
 use Rattle.text.specs.declared.bracket.Bracket.{Bracket}
 use Rattle.text.specs.declared.token.TokenKind.TheVariants.{Close}
 use Rattle.syntax.specs.Progress.{puts}
-use Rattle.syntax.specs.Reading.{Tally, Outcome, refused, made, and_then}
+use Rattle.syntax.specs.Reading.{Tally, Outcome, made, and_then}
 use Rattle.syntax.specs.Sexps.{Sexp, Sexps, nil, cons, closing, AllAtoms}
 use Rattle.syntax.specs.Streams.{streams}
 use Rattle.syntax.specs.declared.node.Node.{Node}

@@ -1,5 +1,5 @@
 -- Tokens in brackets: an atom is a token that is no bracket, a list is what stands between a bracket and the one that closes it.
-use Rattle.std.specs.Prelude.{◌≡◌, ℕ, suc, max, List, [], ◌∷◌}
+use Rattle.std.specs.Prelude.{ℕ, suc, max, List, [], ◌∷◌}
 use Rattle.text.specs.Grammar.{NoBracket}
 use Rattle.text.specs.Tokens.{Lexeme, lexeme}
 use Rattle.text.specs.declared.bracket.Bracket.{Bracket}

@@ -1,5 +1,5 @@
 -- The tokens of a text that are still to come, with their brackets nested.
-use Rattle.std.specs.Prelude.{ℕ, suc, List, None, Option}
+use Rattle.std.specs.Prelude.{ℕ, suc, None, Option}
 use Rattle.text.specs.Tokens.{lexeme, Lexed, also}
 use Rattle.text.specs.declared.keyword.Keyword.{Keyword}
 use Rattle.text.specs.declared.token.TokenKind.TheVariants.{Open, Close}

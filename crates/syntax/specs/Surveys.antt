@@ -1,5 +1,5 @@
 -- How many parts a list has, and the reserved word that it begins with, by its tokens.
-use Rattle.std.specs.Prelude.{ℕ, ◌+◌, ◌-◌, cond, None, ◌==◌, nat_lt}
+use Rattle.std.specs.Prelude.{◌+◌, ◌-◌, cond, None, ◌==◌, nat_lt}
 use Rattle.text.specs.Tokens.{Lexed, done, fault, also}
 use Rattle.text.specs.declared.token.TokenKind.{TokenKind}
 use Rattle.text.specs.declared.token.TokenKind.TheVariants as kind

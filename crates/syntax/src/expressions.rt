@@ -52,7 +52,7 @@ fn single(
 }
 
 // The expression at a spot, with at most so many brackets nested in it.
-#[cycle(arm_binding_bindings_bound_branch_branches_case_form_expression_expressions_let_form_list_row)]
+#[cycle(expression)]
 pub(crate) fn expression(
     text: &[u8],
     spot: Spot,
@@ -86,7 +86,7 @@ pub(crate) fn expression(
 }
 
 // The list that begins at a place, by its form: from behind its bracket on.
-#[cycle(arm_binding_bindings_bound_branch_branches_case_form_expression_expressions_let_form_list_row)]
+#[cycle(expression)]
 fn list(
     text: &[u8],
     place: usize,
@@ -114,7 +114,7 @@ fn list(
 }
 
 // A node before the expressions of its list.
-#[cycle(arm_binding_bindings_bound_branch_branches_case_form_expression_expressions_let_form_list_row)]
+#[cycle(expression)]
 fn row(
     text: &[u8],
     place: usize,
@@ -152,7 +152,7 @@ fn row(
 }
 
 // Expressions, up to the bracket that closes their list.
-#[cycle(arm_binding_bindings_bound_branch_branches_case_form_expression_expressions_let_form_list_row)]
+#[cycle(expression)]
 fn expressions(text: &[u8], spot: Spot, nodes: &mut [Node], depth: usize) -> Result<Spot, Refused>
     requires { Ready text.now spot }
     ensures goes { Goes text.now spot result }
@@ -174,7 +174,7 @@ fn expressions(text: &[u8], spot: Spot, nodes: &mut [Node], depth: usize) -> Res
 }
 
 // A let, from its bindings on.
-#[cycle(arm_binding_bindings_bound_branch_branches_case_form_expression_expressions_let_form_list_row)]
+#[cycle(expression)]
 fn let_form(
     text: &[u8],
     place: usize,
@@ -219,7 +219,7 @@ fn let_form(
 }
 
 // The bindings of a let, up to the bracket that closes their list.
-#[cycle(arm_binding_bindings_bound_branch_branches_case_form_expression_expressions_let_form_list_row)]
+#[cycle(expression)]
 fn bindings(text: &[u8], spot: Spot, nodes: &mut [Node], depth: usize) -> Result<Spot, Refused>
     requires { Ready text.now spot }
     ensures goes { Goes text.now spot result }
@@ -241,7 +241,7 @@ fn bindings(text: &[u8], spot: Spot, nodes: &mut [Node], depth: usize) -> Result
 }
 
 // One binding: a list of a name and an expression.
-#[cycle(arm_binding_bindings_bound_branch_branches_case_form_expression_expressions_let_form_list_row)]
+#[cycle(expression)]
 fn binding(text: &[u8], spot: Spot, nodes: &mut [Node], depth: usize) -> Result<Spot, Refused>
     requires { Ready text.now spot }
     ensures goes { Goes text.now spot result }
@@ -270,7 +270,7 @@ fn binding(text: &[u8], spot: Spot, nodes: &mut [Node], depth: usize) -> Result<
 }
 
 // The name and the expression of the binding that begins at a place.
-#[cycle(arm_binding_bindings_bound_branch_branches_case_form_expression_expressions_let_form_list_row)]
+#[cycle(expression)]
 fn bound(
     text: &[u8],
     place: usize,
@@ -310,7 +310,7 @@ fn bound(
 }
 
 // A case, from its subject on.
-#[cycle(arm_binding_bindings_bound_branch_branches_case_form_expression_expressions_let_form_list_row)]
+#[cycle(expression)]
 fn case_form(
     text: &[u8],
     place: usize,
@@ -350,7 +350,7 @@ fn case_form(
 }
 
 // The branches of a case, up to the bracket that closes it.
-#[cycle(arm_binding_bindings_bound_branch_branches_case_form_expression_expressions_let_form_list_row)]
+#[cycle(expression)]
 fn branches(text: &[u8], spot: Spot, nodes: &mut [Node], depth: usize) -> Result<Spot, Refused>
     requires { Ready text.now spot }
     ensures goes { Goes text.now spot result }
@@ -372,7 +372,7 @@ fn branches(text: &[u8], spot: Spot, nodes: &mut [Node], depth: usize) -> Result
 }
 
 // One branch: a list of a pattern and an expression.
-#[cycle(arm_binding_bindings_bound_branch_branches_case_form_expression_expressions_let_form_list_row)]
+#[cycle(expression)]
 fn branch(text: &[u8], spot: Spot, nodes: &mut [Node], depth: usize) -> Result<Spot, Refused>
     requires { Ready text.now spot }
     ensures goes { Goes text.now spot result }
@@ -401,7 +401,7 @@ fn branch(text: &[u8], spot: Spot, nodes: &mut [Node], depth: usize) -> Result<S
 }
 
 // The pattern and the expression of the branch that begins at a place.
-#[cycle(arm_binding_bindings_bound_branch_branches_case_form_expression_expressions_let_form_list_row)]
+#[cycle(expression)]
 fn arm(
     text: &[u8],
     place: usize,

@@ -120,7 +120,7 @@ fn single_type(
 }
 
 // The type at a spot, with at most so many brackets nested in it.
-#[cycle(function_type_listed_types_type_at_type_list)]
+#[cycle(type_at)]
 pub(crate) fn type_at(
     text: &[u8],
     spot: Spot,
@@ -152,7 +152,7 @@ pub(crate) fn type_at(
 }
 
 // The function type that begins at a place, from the list of its parameter types on.
-#[cycle(function_type_listed_types_type_at_type_list)]
+#[cycle(type_at)]
 fn function_type(
     text: &[u8],
     place: usize,
@@ -198,7 +198,7 @@ fn function_type(
 }
 
 // A list of types in brackets: the parameter types of a function type, or the field types of a constructor.
-#[cycle(function_type_listed_types_type_at_type_list)]
+#[cycle(type_at)]
 pub(crate) fn type_list(
     text: &[u8],
     spot: Spot,
@@ -226,7 +226,7 @@ pub(crate) fn type_list(
 }
 
 // Types, at most six, up to the bracket that closes their list.
-#[cycle(function_type_listed_types_type_at_type_list)]
+#[cycle(type_at)]
 fn listed_types(
     text: &[u8],
     spot: Spot,

@@ -1,4 +1,4 @@
-use Rattle.std.proofs.Common.{◌≡◌, sym, subst, arith}
+use Rattle.std.proofs.Common.{subst, arith}
 use Rattle.syntax.specs.Looks.{Seen}
 use Rattle.text.specs.declared.token.TokenKind.TheVariants as kind
 use Rattle.syntax.proofs.LookLaws.{name_read_rule, name_other, name_list, name_close, name_end}
@@ -17,12 +17,12 @@ returns-in-Name c =
       told = λ s rest n e a. name_read_rule c.args.text.now c.args.place s rest n e a sees.0 c.in-Atom.at c.in-Atom.after seen;
     }
 
-pub returns-in-default : goal.returns-in-default
-returns-in-default c =
+pub returns-in_default : goal.returns-in_default
+returns-in_default c =
     let sees = c.in-Atom.ensures in
     record {
       goes = tt;
-      told = λ s rest n e a. name_other c.args.text.now c.args.place s rest n e a c.in-Atom.kind sees.0 c.in-Atom.at c.in-Atom.after _ sees.2 c.in-default.not-Name sees.1 c.wrong.ensures;
+      told = λ s rest n e a. name_other c.args.text.now c.args.place s rest n e a c.in-Atom.kind sees.0 c.in-Atom.at c.in-Atom.after _ sees.2 c.in_default.not-Name sees.1 c.wrong.ensures;
     }
 
 pub returns-in-Open : goal.returns-in-Open

@@ -7,10 +7,10 @@ returns-in-Some c =
     let closes = c.in-Some.ensures in
     record { goes = tt; told = constructor_none c.args.text.now c.args.place c.args.inside closes.0 closes.1.0 closes.1.1.0 _ _ closes.1.1.1 c.wrong.ensures }
 
-pub returns-in-Ok-parts-at : goal.returns-in-Ok-parts-at
-returns-in-Ok-parts-at c =
+pub returns-in-Ok-parts_at : goal.returns-in-Ok-parts_at
+returns-in-Ok-parts_at c =
     let name = c.in-Ok.ensures in
-    let parts = c.in-Ok-parts-at.ensures in
+    let parts = c.in-Ok-parts_at.ensures in
     let forward = name.goes.0 in
     let more = parts.goes.0 in
     record {
@@ -18,10 +18,10 @@ returns-in-Ok-parts-at c =
       told = constructor_parts c.args.text.now c.args.place c.args.inside c.in-Ok.name c.in-None.ensures name.told _ parts.told;
     }
 
-pub returns-in-Err-parts-at : goal.returns-in-Err-parts-at
-returns-in-Err-parts-at c =
+pub returns-in-Err-parts_at : goal.returns-in-Err-parts_at
+returns-in-Err-parts_at c =
     let name = c.in-Ok.ensures in
-    let parts = c.in-Err-parts-at.ensures in
+    let parts = c.in-Err-parts_at.ensures in
     record { goes = tt; told = constructor_parts c.args.text.now c.args.place c.args.inside c.in-Ok.name c.in-None.ensures name.told _ parts.told }
 
 pub returns-in-Err : goal.returns-in-Err

@@ -5,8 +5,8 @@ use Rattle.syntax.proofs.patterns.parts_at.Goals as goal
 pub parts-init : goal.parts-init
 parts-init c = (omega arith, c.requires, λ r h. h)
 
-pub look-at-requires : goal.look-at-requires
-look-at-requires c = c.parts.invariant.1
+pub look_at-requires : goal.look_at-requires
+look_at-requires c = c.parts.invariant.1
 
 pub parts-smaller : goal.parts-smaller
 parts-smaller c =
@@ -23,15 +23,15 @@ parts-preserved c =
     let from = inv.0 in (
       omega arith,
       sees.1.within,
-      λ r h. inv.2 r (parts_next c.args.text.now c.parts.at c.in-Atom.kind sees.0 c.in-Atom.here c.in-Atom.after sees.1 sees.2 (sym c.if-not-is-part.ensures) r h),
+      λ r h. inv.2 r (parts_next c.args.text.now c.parts.at c.in-Atom.kind sees.0 c.in-Atom.here c.in-Atom.after sees.1 sees.2 (sym c.if-not-is_part.ensures) r h),
     )
 
-pub returns-then-not-is-part : goal.returns-then-not-is-part
-returns-then-not-is-part c =
+pub returns-then-not-is_part : goal.returns-then-not-is_part
+returns-then-not-is_part c =
     let sees = c.in-Atom.ensures in
     record {
       goes = tt;
-      told = c.parts.invariant.2 _ (parts_other c.args.text.now c.parts.at c.in-Atom.kind sees.0 c.in-Atom.here c.in-Atom.after _ sees.1 sees.2 (sym c.if-not-is-part.ensures) c.wrong.ensures);
+      told = c.parts.invariant.2 _ (parts_other c.args.text.now c.parts.at c.in-Atom.kind sees.0 c.in-Atom.here c.in-Atom.after _ sees.1 sees.2 (sym c.if-not-is_part.ensures) c.wrong.ensures);
     }
 
 pub returns-in-Open : goal.returns-in-Open

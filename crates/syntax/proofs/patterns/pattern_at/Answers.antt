@@ -3,21 +3,21 @@ use Rattle.syntax.proofs.LookLaws.{name_close, name_end}
 use Rattle.syntax.proofs.PatternLaws.{pattern_wild, pattern_other, pattern_list, pattern_denied}
 use Rattle.syntax.proofs.patterns.pattern_at.Goals as goal
 
-pub returns-then-is-wildcard : goal.returns-then-is-wildcard
-returns-then-is-wildcard c =
+pub returns-then-is_wildcard : goal.returns-then-is_wildcard
+returns-then-is_wildcard c =
     let sees = c.in-Atom.ensures in
     let size = sees.1.size in
     record {
       goes = (sees.1.forward, sees.1.within, omega arith);
-      told = λ s rest n e a. pattern_wild c.args.text.now c.args.place s rest n e a c.in-Atom.kind sees.0 c.in-Atom.at c.in-Atom.after sees.1 sees.2 (sym c.if-is-wildcard.ensures);
+      told = λ s rest n e a. pattern_wild c.args.text.now c.args.place s rest n e a c.in-Atom.kind sees.0 c.in-Atom.at c.in-Atom.after sees.1 sees.2 (sym c.if-is_wildcard.ensures);
     }
 
-pub returns-else-is-wildcard : goal.returns-else-is-wildcard
-returns-else-is-wildcard c =
+pub returns-else-is_wildcard : goal.returns-else-is_wildcard
+returns-else-is_wildcard c =
     let sees = c.in-Atom.ensures in
     record {
       goes = tt;
-      told = λ s rest n e a. pattern_other c.args.text.now c.args.place s rest n e a c.in-Atom.kind sees.0 c.in-Atom.at c.in-Atom.after _ sees.1 sees.2 (sym c.if-is-wildcard.ensures) c.wrong.ensures;
+      told = λ s rest n e a. pattern_other c.args.text.now c.args.place s rest n e a c.in-Atom.kind sees.0 c.in-Atom.at c.in-Atom.after _ sees.1 sees.2 (sym c.if-is_wildcard.ensures) c.wrong.ensures;
     }
 
 pub returns-in-Ok : goal.returns-in-Ok

@@ -7,8 +7,8 @@ use Rattle.syntax.proofs.types.seventh.Goals as goal
 pub returns-in-Some : goal.returns-in-Some
 returns-in-Some c =
     let sees = c.in-Atom.ensures in
-    seventh_atom c.args.text.now c.args.place c.in-Atom.kind sees.0 c.in-Atom.at _ true c.over-limit.result sees.1 sees.2
-    (some_type c.in-Atom.kind c.in-Atom.at 0 sees.0 c.in-Some.field-0 (sym c.in-Some.ensures)) c.over-limit.ensures
+    seventh_atom c.args.text.now c.args.place c.in-Atom.kind sees.0 c.in-Atom.at _ true c.over_limit.result sees.1 sees.2
+    (some_type c.in-Atom.kind c.in-Atom.at 0 sees.0 c.in-Some.field-0 (sym c.in-Some.ensures)) c.over_limit.ensures
 
 pub returns-in-None : goal.returns-in-None
 returns-in-None c =
@@ -16,15 +16,15 @@ returns-in-None c =
     seventh_atom c.args.text.now c.args.place c.in-Atom.kind sees.0 c.in-Atom.at _ false c.wrong.result sees.1 sees.2
     (ap is_some (no_type c.in-Atom.kind c.in-Atom.at 0 sees.0 (sym c.in-None.ensures))) c.wrong.ensures
 
-pub returns-then-is-arrow : goal.returns-then-is-arrow
-returns-then-is-arrow c =
+pub returns-then-is_arrow : goal.returns-then-is_arrow
+returns-then-is_arrow c =
     let sees = c.in-Open.ensures in
-    seventh_list c.args.text.now c.args.place sees.0 sees.1.0 c.in-Open.at c.in-Open.inside c.survey-at.result true c.over-limit-then-is-arrow.result sees.1.1 c.survey-at.ensures c.if-is-arrow.ensures c.over-limit-then-is-arrow.ensures
+    seventh_list c.args.text.now c.args.place sees.0 sees.1.0 c.in-Open.at c.in-Open.inside c.survey_at.result true c.over_limit-then-is_arrow.result sees.1.1 c.survey_at.ensures c.if-is_arrow.ensures c.over_limit-then-is_arrow.ensures
 
-pub returns-else-is-arrow : goal.returns-else-is-arrow
-returns-else-is-arrow c =
+pub returns-else-is_arrow : goal.returns-else-is_arrow
+returns-else-is_arrow c =
     let sees = c.in-Open.ensures in
-    seventh_list c.args.text.now c.args.place sees.0 sees.1.0 c.in-Open.at c.in-Open.inside c.survey-at.result false c.wrong-else-is-arrow.result sees.1.1 c.survey-at.ensures c.if-is-arrow.ensures c.wrong-else-is-arrow.ensures
+    seventh_list c.args.text.now c.args.place sees.0 sees.1.0 c.in-Open.at c.in-Open.inside c.survey_at.result false c.wrong-else-is_arrow.result sees.1.1 c.survey_at.ensures c.if-is_arrow.ensures c.wrong-else-is_arrow.ensures
 
 pub returns-in-Close : goal.returns-in-Close
 returns-in-Close c =

@@ -3,7 +3,7 @@ use Rattle.syntax.specs.Encoding.{encode}
 use Rattle.syntax.specs.Parts.{encode_binding, encode_branch}
 use Rattle.syntax.specs.Reading.{read_expr, read_binding, read_branch}
 use Rattle.syntax.proofs.ReaderLaws.{Halfway}
-use Rattle.syntax.proofs.expressions.+arm_binding_bindings_bound_branch_branches_case_form_expression_expressions_let_form_list_row.Given as goal
+use Rattle.syntax.proofs.expressions.+expression.Given as goal
 
 abbrev pub decreases-arm : goal.decreases-arm
 decreases-arm l = 7 * l.depth + 2
@@ -23,8 +23,8 @@ decreases-branch l = 7 * l.depth + 3
 abbrev pub decreases-branches : goal.decreases-branches
 decreases-branches l = 7 * l.depth + 4
 
-abbrev pub decreases-case-form : goal.decreases-case-form
-decreases-case-form l = 7 * l.depth + 5
+abbrev pub decreases-case_form : goal.decreases-case_form
+decreases-case_form l = 7 * l.depth + 5
 
 abbrev pub decreases-expression : goal.decreases-expression
 decreases-expression l = 7 * l.depth + 0
@@ -32,8 +32,8 @@ decreases-expression l = 7 * l.depth + 0
 abbrev pub decreases-expressions : goal.decreases-expressions
 decreases-expressions l = 7 * l.depth + 1
 
-abbrev pub decreases-let-form : goal.decreases-let-form
-decreases-let-form l = 7 * l.depth + 5
+abbrev pub decreases-let_form : goal.decreases-let_form
+decreases-let_form l = 7 * l.depth + 5
 
 abbrev pub decreases-list : goal.decreases-list
 decreases-list l = 7 * l.depth + 6
