@@ -17,7 +17,7 @@ use Rattle.layout.specs.declared.type_node.TypeNode.{TypeNode}
 use Rattle.names.specs.Indexing.{Finds, names_in}
 use Rattle.names.specs.Parts.{part_of}
 use Rattle.program.specs.Programs.{Program, first_of}
-use Rattle.text.specs.Scans.{refused_at}
+use Rattle.script_refusals.specs.Refusals.{refused_at}
 use Rattle.script_refusals.specs.declared.refusal.Refusal.TheVariants as refusal
 use Rattle.type_rows.specs.TypeExprs.{types_listed, expr_at, head_shape, row_of_result}
 use Rattle.type_rows.specs.declared.shape.Shape.TheVariants as shape

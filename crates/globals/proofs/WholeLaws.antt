@@ -12,7 +12,7 @@ use Rattle.globals.specs.declared.whole.Globals.{Globals}
 use Rattle.grammar.specs.Trees.{Ident, Constructor, datatype_definition, type_annotation, function_definition, val_binding, Script}
 use Rattle.program.specs.Programs as means
 use Rattle.program.specs.Programs.{Name, Program, Bound, Define, Variant, Global, first_of, type_meant, basis_or, global_of, bound_variants, bound_from, defines_of, variants, variants_from, basis_count, program}
-use Rattle.text.specs.Scans.{refused_at}
+use Rattle.script_refusals.specs.Refusals.{refused_at}
 use Rattle.script_refusals.specs.declared.refusal.Refusal.TheVariants as refusal
 use Rattle.type_rows.specs.Rows.{IsKind}
 use Rattle.type_rows.specs.Shapes.{ty}

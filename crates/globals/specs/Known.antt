@@ -7,7 +7,7 @@ use Rattle.globals.specs.declared.variant.Variant.{Variant as VariantCode}
 use Rattle.globals.specs.declared.whole.Globals.{Globals}
 use Rattle.grammar.specs.Trees.{Script}
 use Rattle.program.specs.Programs.{Program, Variant, program, first_of}
-use Rattle.text.specs.Scans.{refused_at}
+use Rattle.script_refusals.specs.Refusals.{refused_at}
 use Rattle.script_refusals.specs.declared.refusal.Refusal.TheVariants as refusal
 use Rattle.script_refusals.specs.declared.refusal.Refused.{Refused}
 use Rattle.type_rows.specs.Rows.{TypesLie, RowsMean, IsKind}

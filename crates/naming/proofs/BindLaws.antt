@@ -18,7 +18,7 @@ use Rattle.scopes.specs.declared.local.Local.{Local}
 use Rattle.scopes.specs.declared.scope.Scope.{Scope}
 use Rattle.scopes.proofs.ContextLaws.{look_found, look_none, context_push, context_size, context_locals, kinds_push, same_push}
 use Rattle.scopes.proofs.PlacedLaws.{placed_push}
-use Rattle.text.specs.Scans.{refused_at}
+use Rattle.script_refusals.specs.Refusals.{refused_at}
 use Rattle.script_refusals.specs.declared.refusal.Refusal.TheVariants as refusal
 use Rattle.script_refusals.specs.declared.refusal.Refused.{Refused}
 use Rattle.type_rows.specs.Rows.{IsKind}

@@ -27,7 +27,7 @@ use Rattle.scopes.specs.Locals.{local_in, name_in, Newest, FindsLocal}
 use Rattle.scopes.specs.declared.local.Local.{Local as LocalCode}
 use Rattle.scopes.proofs.ContextLaws.{look_found, look_none, context_mark}
 use Rattle.scopes.proofs.PlacedLaws.{distance_found, distance_none}
-use Rattle.text.specs.Scans.{refused_at}
+use Rattle.script_refusals.specs.Refusals.{refused_at}
 use Rattle.script_refusals.specs.declared.refusal.Refusal.TheVariants as refusal
 use Rattle.script_refusals.specs.declared.refusal.Refused.{Refused}
 use Rattle.type_rows.specs.declared.value_type.ValueType.{ValueType}

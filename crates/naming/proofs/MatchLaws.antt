@@ -25,7 +25,7 @@ use Rattle.program.specs.declared.code.Code.{Code}
 use Rattle.program.specs.declared.code.Op.TheVariants as op
 use Rattle.scopes.specs.Locals.{Newest, FindsLocal}
 use Rattle.scopes.proofs.ContextLaws.{look_found, look_none}
-use Rattle.text.specs.Scans.{refused_at}
+use Rattle.script_refusals.specs.Refusals.{refused_at}
 use Rattle.script_refusals.specs.declared.refusal.Refusal.TheVariants as refusal
 use Rattle.script_refusals.specs.declared.refusal.Refused.{Refused}
 use Rattle.type_rows.proofs.ScriptRows.{count_types}

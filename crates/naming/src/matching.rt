@@ -2,7 +2,7 @@
 ghost use Rattle.std.specs.Prelude.{◌≡◌, ◌≤◌, ◌&&◌, List, length, ◌==◌};
 ghost use Rattle.naming.specs.Binding.{OnHead, OnConstructor, OnPattern};
 ghost use Rattle.naming.specs.Judges.{desk, Grown};
-ghost use Rattle.text.specs.Scans.{refused_at};
+ghost use Rattle.script_refusals.specs.Refusals.{refused_at};
 ghost use Rattle.script_refusals.specs.declared.refusal.Refusal.TheVariants.{Mismatch};
 ghost use Rattle.grammar.specs.Trees.{PatternPart};
 ghost use Rattle.patterns.specs.Parts.{PartsAt};

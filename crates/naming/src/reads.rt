@@ -3,7 +3,7 @@ ghost use Rattle.std.specs.Prelude.{◌≡◌, ℕ, ◌+◌, ◌<◌, max, slice
 ghost use Rattle.std.specs.List.{slice_get};
 ghost use Rattle.layout.specs.Decoding.{node_found};
 ghost use Rattle.program.specs.Compiling.{code};
-ghost use Rattle.text.specs.Scans.{refused_at};
+ghost use Rattle.script_refusals.specs.Refusals.{refused_at};
 ghost use Rattle.script_refusals.specs.declared.refusal.Refusal.{Refusal};
 ghost use Rattle.script_refusals.specs.declared.refusal.Refusal.TheVariants.{Mismatch};
 

@@ -3,6 +3,7 @@ use Rattle.std.specs.Prelude.{ℕ}
 use Rattle.text.specs.declared.refusal.Refusal.{Refusal as ReadingRefusal}
 use Rattle.text.specs.declared.refusal.Refusal.TheVariants as read
 use Rattle.script_refusals.specs.declared.refusal.Refusal.{Refusal}
+use Rattle.script_refusals.specs.declared.refusal.Refused.{Refused}
 use Rattle.script_refusals.specs.declared.refusal.Refusal.TheVariants.{Symbol, Integer, Bracket, Form, Limit, Repeated, Unknown, Unpaired, Mismatch, Consumed, NoMain, NodeList, Changed}
 
 abbrev pub number_of : Refusal → ℕ
@@ -28,3 +29,6 @@ read_as read.Bracket = Bracket
 read_as read.Form = Form
 read_as read.Limit = Limit
 read_as read.NodeList = NodeList
+
+abbrev pub refused_at : Refusal → ℕ → Refused
+refused_at r p = record { refusal = r; place = p }

@@ -2,7 +2,7 @@
 -- after its parts, but for a test and a pattern, which are judged before arm and branch.
 use Rattle.std.specs.Prelude.{ℕ, Bool, true, false, cond, ◌&&◌, List, [], ◌∷◌, length, drop, Some, None, Option, ◌==◌, nat_lt}
 use Rattle.std.specs.List.{slice_get}
-use Rattle.text.specs.Scans.{refused_at}
+use Rattle.script_refusals.specs.Refusals.{refused_at}
 use Rattle.script_refusals.specs.declared.refusal.Refusal.{Refusal}
 use Rattle.script_refusals.specs.declared.refusal.Refusal.TheVariants as refusal
 use Rattle.script_refusals.specs.declared.refusal.Refused.{Refused}

@@ -4,7 +4,7 @@ use Rattle.globals.proofs.TypeShapes.{function_shape, named_shape, named_unknown
 use Rattle.layout.specs.Words.{word_at}
 use Rattle.layout.specs.declared.type_node.TypeNode.{TypeNode}
 use Rattle.names.specs.Parts.{part_of}
-use Rattle.text.specs.Scans.{refused_at}
+use Rattle.script_refusals.specs.Refusals.{refused_at}
 use Rattle.script_refusals.specs.declared.refusal.Refusal.TheVariants as refusal
 use Rattle.typing.specs.Verdict.{refused}
 use Rattle.globals.proofs.resolving.shape_of.Goals as goal
