@@ -16,7 +16,7 @@ WORD = r"[A-Za-z_][A-Za-z0-9_'′]*(?:-[A-Za-z0-9_'′]+)*"
 CAMEL = re.compile(r"(?<![A-Za-z0-9_'′.-])[a-z][a-z0-9]*[A-Z][A-Za-z0-9]*(?![A-Za-z0-9_'′-])")
 # fields that the check itself names, after functions and after what is known where branches join, in the proof of a function
 FIELDS = {"let-form": "let_form", "case-form": "case_form", "dup-form": "dup_form", "function-type": "function_type", "is-arrow": "is_arrow"}
-FIELDS.update((name, name) for name in ("at-is", "count-is", "found-is", "nodes-is", "if-test"))
+FIELDS.update((name, name) for name in ("after-first", "at-is", "count-is", "found-is", "nodes-is", "if-test"))
 # what a file brings in from the library keeps its name there
 LIBRARY = re.compile(r"\buse (?:Rattle\.std|lib|mathlib|Prim)\.[^{};\n]*\{([^}]*)\}")
 PROOF_OF_FUNCTION = {"Answers.antt", "Choices.antt", "Invariants.antt", "Proof.antt"}

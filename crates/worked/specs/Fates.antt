@@ -1,7 +1,8 @@
 -- What becomes of a text: it is refused by the reading or by the check, or it runs, and then ends or faults.
 use Rattle.std.specs.Prelude.{ℕ, List, [], take, drop, Ok, Err, Result}
 use Rattle.basis.specs.Names.{name_of}
-use Rattle.text.specs.Refusals.{number_of as refusal_number}
+use Rattle.text.specs.Refusals as reading_refusals
+use Rattle.script_refusals.specs.Refusals.{number_of as refusal_number}
 use Rattle.text.specs.declared.refusal.Refused.{Refused}
 use Rattle.grammar.specs.Reading.{reading}
 use Rattle.grammar.specs.Trees.{Script}
@@ -47,7 +48,7 @@ on_verdict Z text script (refuses r) = refused (refusal_number r.refusal) r.plac
 on_verdict Z text script accepted = fate_of text (whole Z script)
 
 abbrev pub on_reading : Sizes → List ℕ → Result Script Refused → Fate
-on_reading Z text (Err r) = refused (refusal_number r.refusal) r.place
+on_reading Z text (Err r) = refused (reading_refusals.number_of r.refusal) r.place
 on_reading Z text (Ok script) = on_verdict Z text script (verdict script)
 
 -- Read into 4096 nodes, checked, and run over so many cells, with a thousand entries on each stack.

@@ -155,7 +155,7 @@ returns-in-Begin-clause-law g c = λ P Z m₀ K env a e M at.
     let S = stands_as c.code_at-code.result c.code_at-code.ensures.code c.in-Begin.is (entered_at at M) in
     let is = c.in-Begin.is in
     let few : c.args.at < 4096 = c.code_at-code.ensures.used (λ e. cc) in
-    let next : c.after_the_first.result ≡ c.args.at + 1 = c.after_the_first.ensures (omega arith) in
+    let next : c.after-first.result ≡ c.args.at + 1 = c.after-first.ensures (omega arith) in
     let cs = r.script.now.code in
     let then : c.code_at-next.result.past ≡ past P cs (c.args.at + 1) = ap (λ (x : Code). x.past) c.code_at-next.ensures.code ∙ ap (past P cs) next in
     at_begin (Enters P Z m₀ K env a r m c.wait-in-Begin.result c.wait-in-Begin.new.machine m) S
