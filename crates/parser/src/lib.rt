@@ -1,4 +1,4 @@
-// The syntax layer: a text as a script. Types and parameter lists are read into tables; the call that reads a whole script is still to come.
+// The reader of scripts: `read` takes a text into a node list and tables, or answers the first refusal.
 #![tactic(auto)]
 
 mod constructors;

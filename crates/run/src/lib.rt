@@ -1,4 +1,5 @@
-// A run of a checked script over any store of cells: it is opened, advanced as often as the host likes, and closed.
+// What a run says of its next step: its place in the text, and the fault that it names there. The calls that open, advance and close a run
+// are still to come.
 #![tactic(auto)]
 
 mod faults;
