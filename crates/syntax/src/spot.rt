@@ -1,6 +1,0 @@
-// Where reading stands: its place in the text, and how many entries of a table are used.
-#[derive(Clone, Copy)]
-pub struct Spot {
-    pub place: usize,
-    pub used: usize,
-}
