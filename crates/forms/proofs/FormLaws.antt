@@ -11,38 +11,38 @@ use Rattle.forms.specs.declared.form.FormKind.{FormKind}
 use Rattle.forms.specs.declared.form.FormKind.TheVariants as form
 
 -- a list with its form
-pub data View : Sexps → FormKind → Form → Type 0 where
-  is_if : {h a b c : Sexp} → View (cons h (cons a (cons b (cons c nil)))) form.If (if_form_rule a b c)
-  is_begin : {h e : Sexp} {es : Sexps} → View (cons h (cons e es)) form.Begin (begin_form_rule e es)
-  is_let : {h bs e : Sexp} → View (cons h (cons bs (cons e nil))) form.Let (let_form_rule bs e)
-  is_case : {h e b : Sexp} {bs : Sexps} → View (cons h (cons e (cons b bs))) form.Case (case_form_rule e b bs)
-  is_dup : {h x : Sexp} → View (cons h (cons x nil)) form.Dup (dup_form_rule x)
-  is_apply : {e : Sexp} {es : Sexps} → View (cons e es) form.Apply (apply_form e es)
-  is_wrong : {ss : Sexps} → View ss form.Wrong no_form
+pub data View : Sexps → Option FormKind → Form → Type 0 where
+  is_if : {h a b c : Sexp} → View (cons h (cons a (cons b (cons c nil)))) (Some form.If) (if_form_rule a b c)
+  is_begin : {h e : Sexp} {es : Sexps} → View (cons h (cons e es)) (Some form.Begin) (begin_form_rule e es)
+  is_let : {h bs e : Sexp} → View (cons h (cons bs (cons e nil))) (Some form.Let) (let_form_rule bs e)
+  is_case : {h e b : Sexp} {bs : Sexps} → View (cons h (cons e (cons b bs))) (Some form.Case) (case_form_rule e b bs)
+  is_dup : {h x : Sexp} → View (cons h (cons x nil)) (Some form.Dup) (dup_form_rule x)
+  is_apply : {e : Sexp} {es : Sexps} → View (cons e es) (Some form.Apply) (apply_form e es)
+  is_wrong : {ss : Sexps} → View ss None no_form
 
-if_view : (h : Sexp) (es : Sexps) → View (cons h es) (cond (eqb (suc (count es)) 4) form.If form.Wrong) (if_form (three_of es))
+if_view : (h : Sexp) (es : Sexps) → View (cons h es) (cond (eqb (suc (count es)) 4) (Some form.If) None) (if_form (three_of es))
 if_view h nil = is_wrong
 if_view h (cons a nil) = is_wrong
 if_view h (cons a (cons b nil)) = is_wrong
 if_view h (cons a (cons b (cons c nil))) = is_if
 if_view h (cons a (cons b (cons c (cons d es)))) = rw (ne_eqb (suc (suc (suc (suc (suc (count es)))))) 4 (λ z. omega arith)) is_wrong
 
-let_view : (h : Sexp) (es : Sexps) → View (cons h es) (cond (eqb (suc (count es)) 3) form.Let form.Wrong) (let_form (two_of es))
+let_view : (h : Sexp) (es : Sexps) → View (cons h es) (cond (eqb (suc (count es)) 3) (Some form.Let) None) (let_form (two_of es))
 let_view h nil = is_wrong
 let_view h (cons a nil) = is_wrong
 let_view h (cons a (cons b nil)) = is_let
 let_view h (cons a (cons b (cons c es))) = rw (ne_eqb (suc (suc (suc (suc (count es))))) 3 (λ z. omega arith)) is_wrong
 
-begin_view : (h : Sexp) (es : Sexps) → View (cons h es) (cond (ltb 1 (suc (count es))) form.Begin form.Wrong) (begin_form es)
+begin_view : (h : Sexp) (es : Sexps) → View (cons h es) (cond (ltb 1 (suc (count es))) (Some form.Begin) None) (begin_form es)
 begin_view h nil = is_wrong
 begin_view h (cons e es) = rw (lt-ltb 1 (suc (suc (count es))) (omega arith)) is_begin
 
-case_view : (h : Sexp) (es : Sexps) → View (cons h es) (cond (ltb 2 (suc (count es))) form.Case form.Wrong) (case_form es)
+case_view : (h : Sexp) (es : Sexps) → View (cons h es) (cond (ltb 2 (suc (count es))) (Some form.Case) None) (case_form es)
 case_view h nil = is_wrong
 case_view h (cons e nil) = is_wrong
 case_view h (cons e (cons b bs)) = rw (lt-ltb 2 (suc (suc (suc (count bs)))) (omega arith)) is_case
 
-dup_view : (h : Sexp) (es : Sexps) → View (cons h es) (cond (eqb (suc (count es)) 2) form.Dup form.Wrong) (dup_form es)
+dup_view : (h : Sexp) (es : Sexps) → View (cons h es) (cond (eqb (suc (count es)) 2) (Some form.Dup) None) (dup_form es)
 dup_view h nil = is_wrong
 dup_view h (cons x nil) = is_dup
 dup_view h (cons x (cons y es)) = rw (ne_eqb (suc (suc (suc (count es)))) 2 (λ z. omega arith)) is_wrong
@@ -84,12 +84,12 @@ below_six n k h = go (cases_lt n 7)
     go (inr a) = lt-ltb k (min 7 n) (omega arith) ∙ sym (lt-ltb k n (omega arith))
 
 pub kind_capped : (h : Option Keyword) (n : ℕ) → form_kind h (min 7 n) ≡ form_kind h n
-kind_capped None n = ap (λ b. cond b form.Apply form.Wrong) (below_six n 0 (omega arith))
-kind_capped (Some keyword.If) n = ap (λ b. cond b form.If form.Wrong) (at_most_six n 4 (omega arith))
-kind_capped (Some keyword.Begin) n = ap (λ b. cond b form.Begin form.Wrong) (below_six n 1 (omega arith))
-kind_capped (Some keyword.Let) n = ap (λ b. cond b form.Let form.Wrong) (at_most_six n 3 (omega arith))
-kind_capped (Some keyword.Case) n = ap (λ b. cond b form.Case form.Wrong) (below_six n 2 (omega arith))
-kind_capped (Some keyword.Dup) n = ap (λ b. cond b form.Dup form.Wrong) (at_most_six n 2 (omega arith))
+kind_capped None n = ap (λ b. cond b (Some form.Apply) None) (below_six n 0 (omega arith))
+kind_capped (Some keyword.If) n = ap (λ b. cond b (Some form.If) None) (at_most_six n 4 (omega arith))
+kind_capped (Some keyword.Begin) n = ap (λ b. cond b (Some form.Begin) None) (below_six n 1 (omega arith))
+kind_capped (Some keyword.Let) n = ap (λ b. cond b (Some form.Let) None) (at_most_six n 3 (omega arith))
+kind_capped (Some keyword.Case) n = ap (λ b. cond b (Some form.Case) None) (below_six n 2 (omega arith))
+kind_capped (Some keyword.Dup) n = ap (λ b. cond b (Some form.Dup) None) (at_most_six n 2 (omega arith))
 kind_capped (Some keyword.Unit) n = refl
 kind_capped (Some keyword.True) n = refl
 kind_capped (Some keyword.False) n = refl

@@ -1,5 +1,6 @@
 -- What stands next, as a token by itself or a list.
-use Rattle.std.proofs.Common.{◌≡◌, ℕ, List, Ok, Err, sym, refl, ap, ◌∙◌, subst, arith}
+use Rattle.std.proofs.Common.{◌≡◌, ℕ, false, List, Some, None, Option, Ok, Err, sym, refl, ap, ◌∙◌, subst, arith}
+use Rattle.std.specs.Option.{is_some}
 use Rattle.text.specs.Grammar.{NoBracket}
 use Rattle.text.specs.Scans.{refused_at}
 use Rattle.text.specs.Tokens.{Lexeme, lexeme, Lexed, also, lexed_from}
@@ -8,7 +9,7 @@ use Rattle.text.specs.declared.refusal.Refused.{Refused}
 use Rattle.text.specs.declared.refusal.Refusal.TheVariants as refusal
 use Rattle.text.specs.declared.token.TokenKind.{TokenKind}
 use Rattle.text.specs.declared.token.TokenKind.TheVariants as kind
-use Rattle.forms.specs.Looks.{Seen, Named}
+use Rattle.forms.specs.Looks.{Seen, NoList, NotClosing, Closes, Named}
 use Rattle.grammar.specs.Reading.{Tally, refused, name_of, name_read}
 use Rattle.forms.specs.Rows.{closed_by}
 use Rattle.grammar.specs.Sexps.{Sexp, atom, list, Sexps, opening, Atoms, AllAtoms}
@@ -57,6 +58,20 @@ not_close r p w l (list r' p' ss q) rest a e =
 pub some_token : (l : Lexed) (s : Sexp) (rest : Lexed) → ((t : Lexeme) (more : Lexed) → l ≡ also t more → ⊥) → l ≡ stream s rest → ⊥
 some_token l (atom k p w) rest f e = f _ _ e
 some_token l (list r p ss q) rest f e = f _ _ e
+
+-- no opening bracket begins a token by itself
+abbrev pub NotList : Sexp → Refused → Type 0
+NotList (atom k p w) x = x ≡ refused_at refusal.Form p
+NotList (list r p ss q) x = ⊥
+
+pub not_list : (l : Lexed) (place : ℕ) (s : Sexp) (rest : Lexed) (x : Refused) → NoList l place x → l ≡ stream s rest → NotList s x
+not_list l place (atom k p w) rest x h e = (subst (λ l. NoList l place x) e h).1
+not_list l place (list r p ss q) rest x h e = absurd (subst (λ l. NoList l place x) e h).0
+
+-- where no closing bracket was found
+pub not_closing : (text : List ℕ) (place : ℕ) (o : Option ℕ) → Closes text place o → is_some o ≡ false → NotClosing (lexed_from text place)
+not_closing text place (Some after) c h = absurd (clash cc)
+not_closing text place None c h = c
 
 -- Names.
 module _ (text : List ℕ) (place : ℕ) (s : Sexp) (rest : Lexed) (n : Tally) (e : lexed_from text place ≡ stream s rest) (a : Atoms s) where

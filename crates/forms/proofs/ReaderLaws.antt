@@ -1,5 +1,5 @@
 -- What each reader tells, by what the readers that it calls tell.
-use Rattle.std.proofs.Common.{◌≡◌, ℕ, zero, suc, ◌+◌, ◌-◌, ◌<◌, ◌≤◌, min, Bool, true, false, cond, ltb, List, [], ◌∷◌, length, set, IfOk, Some, Ok, Err, Result, sym, refl, ap, ◌∙◌, subst, arith}
+use Rattle.std.proofs.Common.{◌≡◌, ℕ, zero, suc, ◌+◌, ◌-◌, ◌<◌, ◌≤◌, min, Bool, true, false, cond, ltb, List, [], ◌∷◌, length, set, IfOk, Some, None, Ok, Err, Option, Result, sym, refl, ap, ◌∙◌, subst, arith}
 use Rattle.std.proofs.lemmas.List.{append-nil}
 use Rattle.text.specs.Grammar.{NoBracket}
 use Rattle.text.specs.Scans.{refused_at}
@@ -16,7 +16,7 @@ use Rattle.layout.specs.Encoding.{node, pattern_place}
 use Rattle.forms.specs.Drafts.{encode}
 use Rattle.grammar.specs.Forms.{is_key, Two, two, not_two, two_of, Form, let_form_rule, case_form_rule, dup_form_rule, form_named}
 use Rattle.forms.specs.Kinds.{form_kind}
-use Rattle.forms.specs.Looks.{Seen, NotClosing, Closes, Named, Behind}
+use Rattle.forms.specs.Looks.{Seen, NoList, NotClosing, Closes, Named, Behind}
 use Rattle.forms.specs.Parts.{under, encode_binding, encode_branch, OnPart, OnList, OnEach, read_row, reading_at}
 use Rattle.forms.specs.Patterns.{Patterned}
 use Rattle.forms.specs.Progress.{Goes, Told}
@@ -36,7 +36,7 @@ use Rattle.forms.specs.declared.patterns.PatternAt.{PatternAt}
 use Rattle.forms.specs.declared.spot.Spot.{Spot}
 use Rattle.forms.proofs.AtomLaws.{one_node, granted, denied}
 use Rattle.forms.proofs.FormLaws.{View, is_if, is_begin, is_let, is_case, is_dup, is_apply, is_wrong, kind_capped, view, count_two, other_two}
-use Rattle.forms.proofs.LookLaws.{is_atom, is_list}
+use Rattle.forms.proofs.LookLaws.{is_atom, is_list, not_list}
 use Rattle.forms.proofs.PartLaws.{Alike, both_refused, both_made, alike_count, told_alike, both, told_then, told_under, if_alike, begin_alike, apply_alike, let_alike, case_alike}
 use Rattle.forms.proofs.RowLaws.{left_none, left_some, along_start, along_end, along_part, along_next, along_refused}
 use Rattle.forms.proofs.SurveyLaws.{survey_list}
@@ -122,14 +122,14 @@ alike_weaken h both_refused = both_refused
 alike_weaken h (both_made r) = both_made (h _ _ r)
 
 -- A list by its form.
-abbrev wordy : FormKind → Bool
-wordy formkind.If = true
-wordy formkind.Begin = true
-wordy formkind.Let = true
-wordy formkind.Case = true
-wordy formkind.Dup = true
-wordy formkind.Apply = false
-wordy formkind.Wrong = false
+abbrev wordy : Option FormKind → Bool
+wordy (Some formkind.If) = true
+wordy (Some formkind.Begin) = true
+wordy (Some formkind.Let) = true
+wordy (Some formkind.Case) = true
+wordy (Some formkind.Dup) = true
+wordy (Some formkind.Apply) = false
+wordy None = false
 
 -- a form other than an application has a reserved word at its head
 head_behind : (text : List ℕ) (place inside : ℕ) (h : Sexp) (es : Sexps) (shape : Bracket) (q : ℕ) (rest : Lexed) → Behind text place inside → lexed_from text place ≡ closed_by (cons h es) shape q rest
@@ -137,11 +137,11 @@ head_behind : (text : List ℕ) (place inside : ℕ) (h : Sexp) (es : Sexps) (sh
 head_behind text place inside (atom k p w) es shape q rest b e t = b.2 _ _ e
 head_behind text place inside (list r p ss q') es shape q rest b e t = absurd (go (ltb 0 (suc (count es))) t)
   where
-    go : (b : Bool) → wordy (cond b formkind.Apply formkind.Wrong) ≡ true → ⊥
+    go : (b : Bool) → wordy (cond b (Some formkind.Apply) None) ≡ true → ⊥
     go true t = clash cc
     go false t = clash cc
 
-module _ (text : List ℕ) (spot : Spot) (ns : List Node) (entries depth p : ℕ) (r : Result Spot Refused) (after : List Node) (f : FormKind) (is_kind : f ≡ form_kind (surveyed (lexed_from text spot.place)).head (surveyed (lexed_from text spot.place)).parts) where
+module _ (text : List ℕ) (spot : Spot) (ns : List Node) (entries depth p : ℕ) (r : Result Spot Refused) (after : List Node) (f : Option FormKind) (is_kind : f ≡ form_kind (surveyed (lexed_from text spot.place)).head (surveyed (lexed_from text spot.place)).parts) where
   kind_is : (ss : Sexps) (shape : Bracket) (q : ℕ) (rest : Lexed) → lexed_from text spot.place ≡ closed_by ss shape q rest → AllAtoms ss → f ≡ form_kind (first_head ss) (count ss)
   kind_is ss shape q rest e a = is_kind ∙ ap (λ l. form_kind (surveyed l).head (surveyed l).parts) e ∙ ap (λ s. form_kind s.head s.parts) (survey_list ss shape q rest a) ∙ kind_capped (first_head ss) (count ss)
 
@@ -153,45 +153,45 @@ module _ (text : List ℕ) (spot : Spot) (ns : List Node) (entries depth p : ℕ
 -- Each form, from what is told of its parts behind the reserved word.
 module _ (text : List ℕ) (spot : Spot) (ns : List Node) (entries depth p inside : ℕ) (r : Result Spot Refused) (after : List Node) (skip : Behind text spot.place inside) where
   pub on_if : OnEach text (record { place = inside; used = spot.used }) ns (under form.If p (encode_each encode)) (read_row entries p (read_expr entries depth)) r after
-      → (ss : Sexps) (g : Form) → View ss formkind.If g → formkind.If ≡ form_kind (first_head ss) (count ss) → OnList text spot ns encode ss (reading_at entries depth p g) r after
+      → (ss : Sexps) (g : Form) → View ss (Some formkind.If) g → Some formkind.If ≡ form_kind (first_head ss) (count ss) → OnList text spot ns encode ss (reading_at entries depth p g) r after
   on_if told _ _ (is_if {h = h} {a = x} {b = y} {c = z}) k shape q rest n e a u =
       told_alike text rest spot ns r after (alike_count entries p n _ _ (λ m. alike_weaken (λ xs e h. h spot.used) (if_alike entries (read_expr entries depth) p x y z m)))
       (told_spot (λ n. n.nodes) text rest (record { place = inside; used = spot.used }) spot ns (under form.If p (encode_each encode) spot.used) (read_row entries p (read_expr entries depth) (cons x (cons y (cons z nil))) n) r after refl
       (told (cons x (cons y (cons z nil))) shape q rest n (head_behind text spot.place inside h (cons x (cons y (cons z nil))) shape q rest skip e (sym (ap wordy k))) a.1 u))
 
   pub on_begin : OnEach text (record { place = inside; used = spot.used }) ns (under form.Begin p (encode_each encode)) (read_row entries p (read_expr entries depth)) r after
-      → (ss : Sexps) (g : Form) → View ss formkind.Begin g → formkind.Begin ≡ form_kind (first_head ss) (count ss) → OnList text spot ns encode ss (reading_at entries depth p g) r after
+      → (ss : Sexps) (g : Form) → View ss (Some formkind.Begin) g → Some formkind.Begin ≡ form_kind (first_head ss) (count ss) → OnList text spot ns encode ss (reading_at entries depth p g) r after
   on_begin told _ _ (is_begin {h = h} {e = x} {es = es}) k shape q rest n e a u =
       told_alike text rest spot ns r after (alike_count entries p n _ _ (λ m. alike_weaken (λ xs e h. h spot.used) (begin_alike entries (read_expr entries depth) p x es m)))
       (told_spot (λ n. n.nodes) text rest (record { place = inside; used = spot.used }) spot ns (under form.Begin p (encode_each encode) spot.used) (read_row entries p (read_expr entries depth) (cons x es) n) r after refl
       (told (cons x es) shape q rest n (head_behind text spot.place inside h (cons x es) shape q rest skip e (sym (ap wordy k))) a.1 u))
 
   pub on_let : ((bs e : Sexp) → OnList text (record { place = inside; used = spot.used }) ns encode (cons bs (cons e nil)) (reading_at entries depth p (let_form_rule bs e)) r after)
-      → (ss : Sexps) (g : Form) → View ss formkind.Let g → formkind.Let ≡ form_kind (first_head ss) (count ss) → OnList text spot ns encode ss (reading_at entries depth p g) r after
+      → (ss : Sexps) (g : Form) → View ss (Some formkind.Let) g → Some formkind.Let ≡ form_kind (first_head ss) (count ss) → OnList text spot ns encode ss (reading_at entries depth p g) r after
   on_let told _ _ (is_let {h = h} {bs = x} {e = y}) k shape q rest n e a u =
       told_spot (λ n. n.nodes) text rest (record { place = inside; used = spot.used }) spot ns _ _ r after refl
       (told x y shape q rest n (head_behind text spot.place inside h (cons x (cons y nil)) shape q rest skip e (sym (ap wordy k))) a.1 u)
 
   pub on_case : ((e b : Sexp) (bs : Sexps) → OnList text (record { place = inside; used = spot.used }) ns encode (cons e (cons b bs)) (reading_at entries depth p (case_form_rule e b bs)) r after)
-      → (ss : Sexps) (g : Form) → View ss formkind.Case g → formkind.Case ≡ form_kind (first_head ss) (count ss) → OnList text spot ns encode ss (reading_at entries depth p g) r after
+      → (ss : Sexps) (g : Form) → View ss (Some formkind.Case) g → Some formkind.Case ≡ form_kind (first_head ss) (count ss) → OnList text spot ns encode ss (reading_at entries depth p g) r after
   on_case told _ _ (is_case {h = h} {e = x} {b = y} {bs = zs}) k shape q rest n e a u =
       told_spot (λ n. n.nodes) text rest (record { place = inside; used = spot.used }) spot ns _ _ r after refl
       (told x y zs shape q rest n (head_behind text spot.place inside h (cons x (cons y zs)) shape q rest skip e (sym (ap wordy k))) a.1 u)
 
   pub on_dup : ((d : ℕ) (x : Sexp) → OnList text (record { place = inside; used = spot.used }) ns encode (cons x nil) (reading_at entries d p (dup_form_rule x)) r after)
-      → (ss : Sexps) (g : Form) → View ss formkind.Dup g → formkind.Dup ≡ form_kind (first_head ss) (count ss) → OnList text spot ns encode ss (reading_at entries depth p g) r after
+      → (ss : Sexps) (g : Form) → View ss (Some formkind.Dup) g → Some formkind.Dup ≡ form_kind (first_head ss) (count ss) → OnList text spot ns encode ss (reading_at entries depth p g) r after
   on_dup told _ _ (is_dup {h = h} {x = x}) k shape q rest n e a u =
       told_spot (λ n. n.nodes) text rest (record { place = inside; used = spot.used }) spot ns _ _ r after refl
       (told depth x shape q rest n (head_behind text spot.place inside h (cons x nil) shape q rest skip e (sym (ap wordy k))) a.1 u)
 
   pub on_apply : OnEach text spot ns (under form.Apply p (encode_each encode)) (read_row entries p (read_expr entries depth)) r after
-      → (ss : Sexps) (g : Form) → View ss formkind.Apply g → formkind.Apply ≡ form_kind (first_head ss) (count ss) → OnList text spot ns encode ss (reading_at entries depth p g) r after
+      → (ss : Sexps) (g : Form) → View ss (Some formkind.Apply) g → Some formkind.Apply ≡ form_kind (first_head ss) (count ss) → OnList text spot ns encode ss (reading_at entries depth p g) r after
   on_apply told _ _ (is_apply {e = x} {es = es}) k shape q rest n e a u =
       told_alike text rest spot ns r after (alike_count entries p n _ _ (λ m. alike_weaken (λ xs e h. h spot.used) (apply_alike entries (read_expr entries depth) p x es m)))
       (told (cons x es) shape q rest n e a u)
 
   pub on_wrong : r ≡ Err (refused_at refusal.Form p)
-      → (ss : Sexps) (g : Form) → View ss formkind.Wrong g → formkind.Wrong ≡ form_kind (first_head ss) (count ss) → OnList text spot ns encode ss (reading_at entries depth p g) r after
+      → (ss : Sexps) (g : Form) → View ss None g → None ≡ form_kind (first_head ss) (count ss) → OnList text spot ns encode ss (reading_at entries depth p g) r after
   on_wrong is_r _ _ is_wrong k shape q rest n e a u = is_r
 
 -- An expression, by what stands next.
@@ -244,11 +244,12 @@ module _ (text : List ℕ) (spot : Spot) (ns : List Node) (k : Bracket) (w : Lis
         let m = counted l.parts l.shape l.end rest l.inside l.atoms in
         subst (λ o. Told text rest spot ns (encoding spot.used) o (Err x) now) (sym (ap (λ s. read s n) l.is ∙ reads l.shape l.parts l.end n ∙ ap (λ t. of t n) (other_two l.parts (λ z. c (omega arith))) ∙ is_not n)) (ap Err is_x)
 
-pub atom_wrong : {A : Type 0} (text : List ℕ) (spot : Spot) (ns : List Node) (encoding : ℕ → A → List Node) (read : Sexp → Tally → Outcome A) (k : TokenKind) (w : List ℕ) (p after : ℕ) (x : Refused) (now : List Node)
-    → Seen text spot.place k w p after → NoBracket k → ((n : Tally) → read (atom k p w) n ≡ refused (refused_at refusal.Form p)) → x ≡ refused_at refusal.Form p → OnPart text spot ns encoding read (Err x) now
-atom_wrong text spot ns encoding read k w p after x now seen b is is_x s rest n e a u =
-    let t = is_atom k p w (lexed_from text after) s rest b (sym seen.follows ∙ e) in
-    subst (λ o. Told text rest spot ns (encoding spot.used) o (Err x) now) (sym (ap (λ s. read s n) t.0 ∙ is n)) (ap Err is_x)
+-- where no list begins
+pub unlisted : {A : Type 0} (text : List ℕ) (spot : Spot) (ns : List Node) (encoding : ℕ → A → List Node) (read : Sexp → Tally → Outcome A) (x : Refused) (now : List Node) → NoList (lexed_from text spot.place) spot.place x
+    → ((k : TokenKind) (p : ℕ) (w : List ℕ) (n : Tally) → read (atom k p w) n ≡ refused (refused_at refusal.Form p)) → OnPart text spot ns encoding read (Err x) now
+unlisted text spot ns encoding read x now unopened is (atom k p w) rest n e a u =
+    subst (λ o. Told text rest spot ns (encoding spot.used) o (Err x) now) (sym (is k p w n)) (ap Err (not_list (lexed_from text spot.place) spot.place (atom k p w) rest x unopened e))
+unlisted text spot ns encoding read x now unopened is (list r p ss q) rest n e a u = absurd (not_list (lexed_from text spot.place) spot.place (list r p ss q) rest x unopened e)
 
 -- Names and patterns use nothing of the limits.
 abbrev Keeps : {A : Type 0} → Tally → Outcome A → Type 0
@@ -526,9 +527,9 @@ module _ (text : List ℕ) (spot : Spot) (ns : List Node) (entries p m : ℕ) (r
         (told_stop (λ n. n.nodes) text (closed_by (cons e nil) shape q rest) rest begin ns now (encode_each encode_binding) (λ xs n. and_then (read_each read (cons e nil) n) (λ ys n. made (xs, ys) n)) (λ x. []) (read_each (read_binding entries read) parts (one_node n)) y
         (first parts shape' q' (closed_by (cons e nil) shape q rest) (one_node n) l atoms v)))))
 
-  pub let_atom : (t : TokenKind) (b : List ℕ) (o after : ℕ) (y : Refused) (now : List Node) → Seen text spot.place t b o after → NoBracket t → y ≡ refused_at refusal.Form o
+  pub let_unlisted : (y : Refused) (now : List Node) → NoList (lexed_from text spot.place) spot.place y
       → (bs e : Sexp) → OnList text spot ns encode (cons bs (cons e nil)) (read_form entries read p (let_form_rule bs e)) (Err y) now
-  let_atom t b o after y now seen nb is_y bs e shape q rest n E a u =
-      claim_granted text spot ns entries p (encode spot.used) rest n (λ n. and_then (read_binding_list entries read bs n) (then_let e)) m (Err y) now u c (λ v w.
-      let l = is_atom t o b (lexed_from text after) bs (closed_by (cons e nil) shape q rest) nb (sym seen.follows ∙ E) in
-      subst (λ s. Told text rest spot ns (encode spot.used) (and_then (read_binding_list entries read s (one_node n)) (λ xs n. and_then (read e n) (λ y n. made (let_expr p xs y) n))) (Err y) now) (sym l.0) (ap Err is_y))
+  let_unlisted y now unopened (atom t o b) e shape q rest n E a u =
+      claim_granted text spot ns entries p (encode spot.used) rest n (λ n. and_then (read_binding_list entries read (atom t o b) n) (then_let e)) m (Err y) now u c (λ v w.
+      ap Err (not_list (lexed_from text spot.place) spot.place (atom t o b) (closed_by (cons e nil) shape q rest) y unopened E))
+  let_unlisted y now unopened (list r o ss d) e shape q rest n E a u = absurd (not_list (lexed_from text spot.place) spot.place (list r o ss d) (closed_by (cons e nil) shape q rest) y unopened E)

@@ -14,10 +14,10 @@ use super::atoms::{claim, leaf, wrong};
 use super::form::{FormKind, form_of};
 use super::names::name_at;
 use super::patterns::pattern_at;
-use super::sight::{Look, behind, closing_at, look_at};
+use super::sight::{Look, behind, closing_at, end_at, look_at, opening_at};
 use super::source::Source;
 use super::spot::Spot;
-use layout::{Node, NodeForm, Word};
+use layout::{Node, NodeForm};
 use text::{Refused, TokenKind};
 
 // A token that is an expression by itself, at a place, with the place behind it.
@@ -35,20 +35,16 @@ fn single(
     let Some(form) = leaf(kind, place as u16, after - place) else {
         return Err(wrong(place));
     };
-    match claim(used, nodes.len(), place) {
-        Ok(past) => {
-            nodes[used] = Node {
-                form,
-                place: place as u16,
-                past: past as u16,
-            };
-            Ok(Spot {
-                place: after,
-                used: past,
-            })
-        }
-        Err(refused) => Err(refused),
-    }
+    let past = claim(used, nodes.len(), place)?;
+    nodes[used] = Node {
+        form,
+        place: place as u16,
+        past: past as u16,
+    };
+    Ok(Spot {
+        place: after,
+        used: past,
+    })
 }
 
 // The expression at a spot, with at most so many brackets nested in it.
@@ -68,16 +64,11 @@ pub fn expression(
             if depth == 0 {
                 return Err(wrong(at));
             }
-            list(
-                source,
-                at,
-                Spot {
-                    place: inside,
-                    used: spot.used,
-                },
-                nodes,
-                depth - 1,
-            )
+            let first = Spot {
+                place: inside,
+                ..spot
+            };
+            list(source, at, first, nodes, depth - 1)
         }
         Look::Close(at, _) => Err(wrong(at)),
         Look::End => Err(wrong(spot.place)),
@@ -99,16 +90,16 @@ fn list(
 {
     let inside = Spot {
         place: behind(source.text, spot.place),
-        used: spot.used,
+        ..spot
     };
     match form_of(source.survey(spot.place)) {
-        FormKind::If => row(source, place, NodeForm::If, inside, nodes, depth),
-        FormKind::Begin => row(source, place, NodeForm::Begin, inside, nodes, depth),
-        FormKind::Let => let_form(source, place, inside, nodes, depth),
-        FormKind::Case => case_form(source, place, inside, nodes, depth),
-        FormKind::Dup => dup_form(source, place, inside, nodes),
-        FormKind::Apply => row(source, place, NodeForm::Apply, spot, nodes, depth),
-        FormKind::Wrong => Err(wrong(place)),
+        Some(FormKind::If) => row(source, place, NodeForm::If, inside, nodes, depth),
+        Some(FormKind::Begin) => row(source, place, NodeForm::Begin, inside, nodes, depth),
+        Some(FormKind::Let) => let_form(source, place, inside, nodes, depth),
+        Some(FormKind::Case) => case_form(source, place, inside, nodes, depth),
+        Some(FormKind::Dup) => dup_form(source, place, inside, nodes),
+        Some(FormKind::Apply) => row(source, place, NodeForm::Apply, spot, nodes, depth),
+        None => Err(wrong(place)),
     }
 }
 
@@ -126,28 +117,14 @@ fn row(
     ensures goes { Goes source.now.text.now spot result }
     ensures told { OnEach source.now.text.now spot nodes.old (under form place (encode_each encode)) (read_row (length nodes.old) place (read_expr (length nodes.old) depth)) result nodes.new }
 {
-    match claim(spot.used, nodes.len(), place) {
-        Ok(first) => match expressions(
-            source,
-            Spot {
-                place: spot.place,
-                used: first,
-            },
-            nodes,
-            depth,
-        ) {
-            Ok(end) => {
-                nodes[spot.used] = Node {
-                    form,
-                    place: place as u16,
-                    past: end.used as u16,
-                };
-                Ok(end)
-            }
-            Err(refused) => Err(refused),
-        },
-        Err(refused) => Err(refused),
-    }
+    let first = claim(spot.used, nodes.len(), place)?;
+    let end = expressions(source, Spot { used: first, ..spot }, nodes, depth)?;
+    nodes[spot.used] = Node {
+        form,
+        place: place as u16,
+        past: end.used as u16,
+    };
+    Ok(end)
 }
 
 // Expressions, up to the bracket that closes their list.
@@ -164,16 +141,10 @@ fn expressions(
 {
     let mut at = spot;
     'parts: loop {
-        match closing_at(source.text, at.place) {
-            Some(after) => return Ok(Spot {
-                place: after,
-                used: at.used,
-            }),
-            None => match expression(source, at, nodes, depth) {
-                Ok(end) => at = end,
-                Err(refused) => return Err(refused),
-            },
+        if let Some(after) = closing_at(source.text, at.place) {
+            return Ok(Spot { place: after, ..at });
         }
+        at = expression(source, at, nodes, depth)?;
     }
 }
 
@@ -190,36 +161,20 @@ fn let_form(
     ensures goes { Goes source.now.text.now spot result }
     ensures told { (bs e : Sexp) → OnList source.now.text.now spot nodes.old encode (cons bs (cons e nil)) (reading_at (length nodes.old) depth place (let_form_rule bs e)) result nodes.new }
 {
-    match claim(spot.used, nodes.len(), place) {
-        Ok(first) => match look_at(source.text, spot.place) {
-            Look::Open(_, inside) => match bindings(
-                source,
-                Spot {
-                    place: inside,
-                    used: first,
-                },
-                nodes,
-                depth,
-            ) {
-                Ok(middle) => match expressions(source, middle, nodes, depth) {
-                    Ok(end) => {
-                        nodes[spot.used] = Node {
-                            form: NodeForm::Let,
-                            place: place as u16,
-                            past: end.used as u16,
-                        };
-                        Ok(end)
-                    }
-                    Err(refused) => Err(refused),
-                },
-                Err(refused) => Err(refused),
-            },
-            Look::Atom(_, at, _) => Err(wrong(at)),
-            Look::Close(at, _) => Err(wrong(at)),
-            Look::End => Err(wrong(place)),
-        },
-        Err(refused) => Err(refused),
-    }
+    let first = claim(spot.used, nodes.len(), place)?;
+    let opened = opening_at(source.text, spot.place)?;
+    let inside = Spot {
+        place: opened.inside,
+        used: first,
+    };
+    let middle = bindings(source, inside, nodes, depth)?;
+    let end = expressions(source, middle, nodes, depth)?;
+    nodes[spot.used] = Node {
+        form: NodeForm::Let,
+        place: place as u16,
+        past: end.used as u16,
+    };
+    Ok(end)
 }
 
 // The bindings of a let, up to the bracket that closes their list.
@@ -231,16 +186,10 @@ fn bindings(source: &Source, spot: Spot, nodes: &mut [Node], depth: usize) -> Re
 {
     let mut at = spot;
     'parts: loop {
-        match closing_at(source.text, at.place) {
-            Some(after) => return Ok(Spot {
-                place: after,
-                used: at.used,
-            }),
-            None => match binding(source, at, nodes, depth) {
-                Ok(end) => at = end,
-                Err(refused) => return Err(refused),
-            },
+        if let Some(after) = closing_at(source.text, at.place) {
+            return Ok(Spot { place: after, ..at });
         }
+        at = binding(source, at, nodes, depth)?;
     }
 }
 
@@ -250,26 +199,15 @@ fn binding(source: &Source, spot: Spot, nodes: &mut [Node], depth: usize) -> Res
     ensures goes { Goes source.now.text.now spot result }
     ensures told { OnPart source.now.text.now spot nodes.old encode_binding (read_binding (length nodes.old) (read_expr (length nodes.old) depth)) result nodes.new }
 {
-    match look_at(source.text, spot.place) {
-        Look::Open(at, inside) => {
-            if source.survey(inside).parts != 2 {
-                return Err(wrong(at));
-            }
-            bound(
-                source,
-                at,
-                Spot {
-                    place: inside,
-                    used: spot.used,
-                },
-                nodes,
-                depth,
-            )
-        }
-        Look::Atom(_, at, _) => Err(wrong(at)),
-        Look::Close(at, _) => Err(wrong(at)),
-        Look::End => Err(wrong(spot.place)),
+    let opened = opening_at(source.text, spot.place)?;
+    if source.survey(opened.inside).parts != 2 {
+        return Err(wrong(opened.place));
     }
+    let inside = Spot {
+        place: opened.inside,
+        ..spot
+    };
+    bound(source, opened.place, inside, nodes, depth)
 }
 
 // The name and the expression of the binding that begins at a place.
@@ -285,34 +223,19 @@ fn bound(
     ensures goes { Goes source.now.text.now spot result }
     ensures told { (x e : Sexp) → OnList source.now.text.now spot nodes.old encode_binding (cons x (cons e nil)) (binding_of (length nodes.old) (read_expr (length nodes.old) depth) place (two x e)) result nodes.new }
 {
-    match claim(spot.used, nodes.len(), place) {
-        Ok(first) => match name_at(source.text, spot.place) {
-            Ok(name) => match expressions(
-                source,
-                Spot {
-                    place: name.after,
-                    used: first,
-                },
-                nodes,
-                depth,
-            ) {
-                Ok(end) => {
-                    nodes[spot.used] = Node {
-                        form: NodeForm::Binding(Word {
-                            place: name.place as u16,
-                            size: (name.after - name.place) as u8,
-                        }),
-                        place: place as u16,
-                        past: end.used as u16,
-                    };
-                    Ok(end)
-                }
-                Err(refused) => Err(refused),
-            },
-            Err(refused) => Err(refused),
-        },
-        Err(refused) => Err(refused),
-    }
+    let first = claim(spot.used, nodes.len(), place)?;
+    let name = name_at(source.text, spot.place)?;
+    let inside = Spot {
+        place: name.after,
+        used: first,
+    };
+    let end = expressions(source, inside, nodes, depth)?;
+    nodes[spot.used] = Node {
+        form: NodeForm::Binding(name.word()),
+        place: place as u16,
+        past: end.used as u16,
+    };
+    Ok(end)
 }
 
 // A case, from its subject on.
@@ -328,31 +251,15 @@ fn case_form(
     ensures goes { Goes source.now.text.now spot result }
     ensures told { (e b : Sexp) (bs : Sexps) → OnList source.now.text.now spot nodes.old encode (cons e (cons b bs)) (reading_at (length nodes.old) depth place (case_form_rule e b bs)) result nodes.new }
 {
-    match claim(spot.used, nodes.len(), place) {
-        Ok(first) => match expression(
-            source,
-            Spot {
-                place: spot.place,
-                used: first,
-            },
-            nodes,
-            depth,
-        ) {
-            Ok(middle) => match branches(source, middle, nodes, depth) {
-                Ok(end) => {
-                    nodes[spot.used] = Node {
-                        form: NodeForm::Case,
-                        place: place as u16,
-                        past: end.used as u16,
-                    };
-                    Ok(end)
-                }
-                Err(refused) => Err(refused),
-            },
-            Err(refused) => Err(refused),
-        },
-        Err(refused) => Err(refused),
-    }
+    let first = claim(spot.used, nodes.len(), place)?;
+    let middle = expression(source, Spot { used: first, ..spot }, nodes, depth)?;
+    let end = branches(source, middle, nodes, depth)?;
+    nodes[spot.used] = Node {
+        form: NodeForm::Case,
+        place: place as u16,
+        past: end.used as u16,
+    };
+    Ok(end)
 }
 
 // The branches of a case, up to the bracket that closes it.
@@ -364,16 +271,10 @@ fn branches(source: &Source, spot: Spot, nodes: &mut [Node], depth: usize) -> Re
 {
     let mut at = spot;
     'parts: loop {
-        match closing_at(source.text, at.place) {
-            Some(after) => return Ok(Spot {
-                place: after,
-                used: at.used,
-            }),
-            None => match branch(source, at, nodes, depth) {
-                Ok(end) => at = end,
-                Err(refused) => return Err(refused),
-            },
+        if let Some(after) = closing_at(source.text, at.place) {
+            return Ok(Spot { place: after, ..at });
         }
+        at = branch(source, at, nodes, depth)?;
     }
 }
 
@@ -383,26 +284,15 @@ fn branch(source: &Source, spot: Spot, nodes: &mut [Node], depth: usize) -> Resu
     ensures goes { Goes source.now.text.now spot result }
     ensures told { OnPart source.now.text.now spot nodes.old encode_branch (read_branch (length nodes.old) (read_expr (length nodes.old) depth)) result nodes.new }
 {
-    match look_at(source.text, spot.place) {
-        Look::Open(at, inside) => {
-            if source.survey(inside).parts != 2 {
-                return Err(wrong(at));
-            }
-            arm(
-                source,
-                at,
-                Spot {
-                    place: inside,
-                    used: spot.used,
-                },
-                nodes,
-                depth,
-            )
-        }
-        Look::Atom(_, at, _) => Err(wrong(at)),
-        Look::Close(at, _) => Err(wrong(at)),
-        Look::End => Err(wrong(spot.place)),
+    let opened = opening_at(source.text, spot.place)?;
+    if source.survey(opened.inside).parts != 2 {
+        return Err(wrong(opened.place));
     }
+    let inside = Spot {
+        place: opened.inside,
+        ..spot
+    };
+    arm(source, opened.place, inside, nodes, depth)
 }
 
 // The pattern and the expression of the branch that begins at a place.
@@ -418,31 +308,19 @@ fn arm(
     ensures goes { Goes source.now.text.now spot result }
     ensures told { (x e : Sexp) → OnList source.now.text.now spot nodes.old encode_branch (cons x (cons e nil)) (branch_of (length nodes.old) (read_expr (length nodes.old) depth) place (two x e)) result nodes.new }
 {
-    match claim(spot.used, nodes.len(), place) {
-        Ok(first) => match pattern_at(source.text, spot.place) {
-            Ok(pattern) => match expressions(
-                source,
-                Spot {
-                    place: pattern.after,
-                    used: first,
-                },
-                nodes,
-                depth,
-            ) {
-                Ok(end) => {
-                    nodes[spot.used] = Node {
-                        form: NodeForm::Branch(pattern.place as u16),
-                        place: place as u16,
-                        past: end.used as u16,
-                    };
-                    Ok(end)
-                }
-                Err(refused) => Err(refused),
-            },
-            Err(refused) => Err(refused),
-        },
-        Err(refused) => Err(refused),
-    }
+    let first = claim(spot.used, nodes.len(), place)?;
+    let pattern = pattern_at(source.text, spot.place)?;
+    let inside = Spot {
+        place: pattern.after,
+        used: first,
+    };
+    let end = expressions(source, inside, nodes, depth)?;
+    nodes[spot.used] = Node {
+        form: NodeForm::Branch(pattern.place as u16),
+        place: place as u16,
+        past: end.used as u16,
+    };
+    Ok(end)
 }
 
 // A dup, from its name on.
@@ -451,27 +329,16 @@ fn dup_form(source: &Source, place: usize, spot: Spot, nodes: &mut [Node]) -> Re
     ensures goes { Goes source.now.text.now spot result }
     ensures told { (depth : ℕ) (x : Sexp) → OnList source.now.text.now spot nodes.old encode (cons x nil) (reading_at (length nodes.old) depth place (dup_form_rule x)) result nodes.new }
 {
-    match claim(spot.used, nodes.len(), place) {
-        Ok(past) => match name_at(source.text, spot.place) {
-            Ok(name) => match closing_at(source.text, name.after) {
-                Some(after) => {
-                    nodes[spot.used] = Node {
-                        form: NodeForm::Dup(Word {
-                            place: name.place as u16,
-                            size: (name.after - name.place) as u8,
-                        }),
-                        place: place as u16,
-                        past: past as u16,
-                    };
-                    Ok(Spot {
-                        place: after,
-                        used: past,
-                    })
-                }
-                None => Err(wrong(name.after)),
-            },
-            Err(refused) => Err(refused),
-        },
-        Err(refused) => Err(refused),
-    }
+    let past = claim(spot.used, nodes.len(), place)?;
+    let name = name_at(source.text, spot.place)?;
+    let after = end_at(source.text, name.after)?;
+    nodes[spot.used] = Node {
+        form: NodeForm::Dup(name.word()),
+        place: place as u16,
+        past: past as u16,
+    };
+    Ok(Spot {
+        place: after,
+        used: past,
+    })
 }

@@ -5,7 +5,7 @@ ghost use Rattle.forms.specs.Kinds.{kind_headed, form_kind};
 use super::survey::Survey;
 use text::Keyword;
 
-#[derive(Clone, Copy)]
+#[derive(Clone, Copy, PartialEq, Eq)]
 pub enum FormKind {
     If,
     Begin,
@@ -13,55 +13,29 @@ pub enum FormKind {
     Case,
     Dup,
     Apply,
-    Wrong,
 }
 
 // A list of so many parts with a reserved word at its head.
-fn headed_kind(head: Keyword, parts: usize) -> FormKind
+fn headed_kind(head: Keyword, parts: usize) -> Option<FormKind>
     ensures { result ≡ kind_headed head parts }
 {
     match head {
-        Keyword::If => if parts == 4 {
-            FormKind::If
-        } else {
-            FormKind::Wrong
-        },
-        Keyword::Begin => if parts > 1 {
-            FormKind::Begin
-        } else {
-            FormKind::Wrong
-        },
-        Keyword::Let => if parts == 3 {
-            FormKind::Let
-        } else {
-            FormKind::Wrong
-        },
-        Keyword::Case => if parts > 2 {
-            FormKind::Case
-        } else {
-            FormKind::Wrong
-        },
-        Keyword::Dup => if parts == 2 {
-            FormKind::Dup
-        } else {
-            FormKind::Wrong
-        },
-        Keyword::Unit => FormKind::Apply,
-        Keyword::True => FormKind::Apply,
-        Keyword::False => FormKind::Apply,
-        _ => FormKind::Wrong,
+        Keyword::If if parts == 4 => Some(FormKind::If),
+        Keyword::Begin if parts > 1 => Some(FormKind::Begin),
+        Keyword::Let if parts == 3 => Some(FormKind::Let),
+        Keyword::Case if parts > 2 => Some(FormKind::Case),
+        Keyword::Dup if parts == 2 => Some(FormKind::Dup),
+        Keyword::Unit | Keyword::True | Keyword::False => Some(FormKind::Apply),
+        _ => None,
     }
 }
 
-pub(crate) fn form_of(seen: Survey) -> FormKind
+// The form of a list as an expression, or none where it is no expression.
+pub(crate) fn form_of(seen: Survey) -> Option<FormKind>
     ensures { result ≡ form_kind seen.head seen.parts }
 {
     match seen.head {
         Some(head) => headed_kind(head, seen.parts),
-        None => if seen.parts > 0 {
-            FormKind::Apply
-        } else {
-            FormKind::Wrong
-        },
+        None => (seen.parts > 0).then_some(FormKind::Apply),
     }
 }

@@ -15,7 +15,7 @@ mod survey;
 pub use atoms::{over_limit, wrong};
 pub use expressions::expression;
 pub use names::{NameAt, name_at};
-pub use sight::{Look, behind, closing_at, look_at};
+pub use sight::{Look, Opened, behind, closing_at, end_at, look_at, opening_at};
 pub use source::Source;
 pub use spot::Spot;
 pub use survey::Survey;

@@ -21,20 +21,14 @@ pub struct PatternAt {
 fn is_wildcard(kind: TokenKind) -> bool
     ensures { result ≡ wildcard_kind kind }
 {
-    match kind {
-        TokenKind::Keyword(Keyword::Wildcard) => true,
-        _ => false,
-    }
+    matches!(kind, TokenKind::Keyword(Keyword::Wildcard))
 }
 
 // Whether a token can stand for one field: a name, or a wildcard.
 fn is_part(kind: TokenKind) -> bool
     ensures { result ≡ part_kind kind }
 {
-    match kind {
-        TokenKind::Name => true,
-        _ => is_wildcard(kind),
-    }
+    matches!(kind, TokenKind::Name) || is_wildcard(kind)
 }
 
 // The parts for the fields, up to the bracket that closes the pattern: the place behind it.
@@ -63,16 +57,11 @@ fn constructor_at(text: &[u8], place: usize, inside: usize) -> Result<usize, Ref
     ensures goes { GoesParts text.now inside result }
     ensures told { PassedAll (read_constructor_pattern place) text.now inside result }
 {
-    match closing_at(text, inside) {
-        Some(_) => Err(wrong(place)),
-        None => match name_at(text, inside) {
-            Ok(name) => match parts_at(text, name.after) {
-                Ok(after) => Ok(after),
-                Err(refused) => Err(refused),
-            },
-            Err(refused) => Err(refused),
-        },
+    if closing_at(text, inside).is_some() {
+        return Err(wrong(place));
     }
+    let name = name_at(text, inside)?;
+    parts_at(text, name.after)
 }
 
 pub(crate) fn pattern_at(text: &[u8], place: usize) -> Result<PatternAt, Refused>
@@ -80,18 +69,12 @@ pub(crate) fn pattern_at(text: &[u8], place: usize) -> Result<PatternAt, Refused
     ensures told { (s : Sexp) (rest : Lexed) (n : Tally) → lexed_from text.now place ≡ stream s rest → Atoms s → Patterned text.now rest (read_pattern s n) result }
 {
     match look_at(text, place) {
-        Look::Atom(kind, at, after) => {
-            if is_wildcard(kind) {
-                Ok(PatternAt { place: at, after })
-            } else {
-                Err(wrong(at))
-            }
+        Look::Atom(kind, place, after) if is_wildcard(kind) => Ok(PatternAt { place, after }),
+        Look::Open(place, inside) => {
+            let after = constructor_at(text, place, inside)?;
+            Ok(PatternAt { place, after })
         }
-        Look::Open(at, inside) => match constructor_at(text, at, inside) {
-            Ok(after) => Ok(PatternAt { place: at, after }),
-            Err(refused) => Err(refused),
-        },
-        Look::Close(at, _) => Err(wrong(at)),
+        Look::Atom(_, at, _) | Look::Close(at, _) => Err(wrong(at)),
         Look::End => Err(wrong(place)),
     }
 }

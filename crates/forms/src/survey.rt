@@ -1,6 +1,5 @@
 // How many parts a list has, and the reserved word that it begins with.
 ghost use Rattle.std.specs.Prelude.{◌≡◌, ◌+◌, min, ◌≤◌};
-ghost use Rattle.grammar.specs.Forms.{kind_head};
 ghost use Rattle.forms.specs.Surveys.{here, parts_of, head_word};
 ghost use Rattle.text.specs.Tokens.{lexed_from};
 
@@ -14,24 +13,13 @@ pub struct Survey {
     pub head: Option<Keyword>,
 }
 
-fn keyword_at(kind: TokenKind) -> Option<Keyword>
-    ensures { result ≡ kind_head kind }
-{
-    match kind {
-        TokenKind::Keyword(k) => Some(k),
-        _ => None,
-    }
-}
-
 // The reserved word that stands next, if one does.
 pub(crate) fn head_at(text: &[u8], place: usize) -> Option<Keyword>
     ensures { result ≡ head_word (lexed_from text.now place) }
 {
     match look_at(text, place) {
-        Look::Atom(kind, _, _) => keyword_at(kind),
-        Look::Open(_, _) => None,
-        Look::Close(_, _) => None,
-        Look::End => None,
+        Look::Atom(TokenKind::Keyword(head), _, _) => Some(head),
+        _ => None,
     }
 }
 

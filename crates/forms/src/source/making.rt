@@ -14,14 +14,10 @@ impl<'t> Source<'t> {
     pub fn new(text: &'t [u8]) -> Result<Source<'t>, Refused>
         ensures { Makes text.now result }
     {
-        match scan(text) {
-            Ok(_) => {
-                let mut counts = [0; 65536];
-                count_lists(text, &mut counts);
-                Ok(Source { text, counts })
-            }
-            Err(refused) => Err(refused),
-        }
+        scan(text)?;
+        let mut counts = [0; 65536];
+        count_lists(text, &mut counts);
+        Ok(Source { text, counts })
     }
 
     // The number of parts of the list whose parts begin at a place.

@@ -1,4 +1,5 @@
-use Rattle.std.proofs.Common.{◌≡◌, length, Ok, Err, sym, refl, ap, ◌∙◌, subst, arith}
+use Rattle.std.proofs.Common.{◌≡◌, ◌≤◌, length, Some, None, Ok, Err, sym, refl, ap, ◌∙◌, subst, arith}
+use Rattle.std.proofs.lemmas.Result.{err_from_is_err_and}
 use Rattle.forms.specs.Drafts.{encode}
 use Rattle.forms.specs.Kinds.{form_kind}
 use Rattle.forms.specs.Parts.{encode_binding, encode_branch, OnPart, OnEach}
@@ -6,17 +7,17 @@ use Rattle.grammar.specs.Reading.{read_expr, read_binding, binding_of, read_bran
 use Rattle.forms.specs.Rows.{read_each, encode_each}
 use Rattle.forms.specs.declared.form.FormKind.TheVariants as formkind
 use Rattle.forms.proofs.LookLaws.{name_close, name_end}
-use Rattle.forms.proofs.ReaderLaws.{goes_back, goes_single, half_start, half_next, half_end, half_refused, row_made, row_refused, by_view, on_if, on_begin, on_let, on_case, on_dup, on_apply, on_wrong, expr_atom_law, expr_deep, expr_list, pair_read, pair_wrong, atom_wrong, bound_made, bound_refused, bound_unnamed, arm_made, arm_refused, arm_unmatched, case_made, case_refused, case_stopped, let_made, let_refused, let_stopped, let_atom}
+use Rattle.forms.proofs.ReaderLaws.{goes_back, goes_single, half_start, half_next, half_end, half_refused, row_made, row_refused, by_view, on_if, on_begin, on_let, on_case, on_dup, on_apply, on_wrong, expr_atom_law, expr_deep, expr_list, pair_read, pair_wrong, unlisted, bound_made, bound_refused, bound_unnamed, arm_made, arm_refused, arm_unmatched, case_made, case_refused, case_stopped, let_made, let_refused, let_stopped, let_unlisted}
 use Rattle.forms.proofs.expressions.+expression.Goals as goal
 
-pub row-returns-in-Ok-expressions : goal.row-returns-in-Ok-expressions
-row-returns-in-Ok-expressions t c =
-    let rest = c.in-Ok-expressions.ensures in
-    record { goes = rest.goes; told = row_made c.args.source.now.text.now c.args.spot c.args.nodes.now (length c.args.nodes.now) c.args.place c.args.form (read_expr (length c.args.nodes.now) c.args.depth) c.in-Ok.first c.in-Ok-expressions.end c.expressions.new.nodes (sym c.in-Ok.ensures) rest.told }
+pub row-returns-in_err-end-clause-told : goal.row-returns-in_err-end-clause-told
+row-returns-in_err-end-clause-told t c =
+    let e = err_from_is_err_and c.from_residual-in_err-end.result c.from_residual-in_err-end.ensures.1 in
+    rw (e.1, e.2) (row_refused c.args.source.now.text.now c.args.spot c.args.nodes.now (length c.args.nodes.now) c.args.place c.args.form (read_expr (length c.args.nodes.now) c.args.depth) c.in_ok-first.first c.in_err-end.field-0.0 c.expressions.new.nodes (sym c.in_ok-first.ensures) c.in_err-end.ensures.told)
 
-pub row-returns-in-Err-expressions : goal.row-returns-in-Err-expressions
-row-returns-in-Err-expressions t c =
-    record { goes = tt; told = row_refused c.args.source.now.text.now c.args.spot c.args.nodes.now (length c.args.nodes.now) c.args.place c.args.form (read_expr (length c.args.nodes.now) c.args.depth) c.in-Ok.first c.in-Err-expressions.refused c.expressions.new.nodes (sym c.in-Ok.ensures) c.in-Err-expressions.ensures.told }
+pub row-returns-clause-told : goal.row-returns-clause-told
+row-returns-clause-told t c =
+    row_made c.args.source.now.text.now c.args.spot c.args.nodes.now (length c.args.nodes.now) c.args.place c.args.form (read_expr (length c.args.nodes.now) c.args.depth) c.in_ok-first.first c.in_ok-end.end c.expressions.new.nodes (sym c.in_ok-first.ensures) c.in_ok-end.ensures.told
 
 pub expressions-parts-init : goal.expressions-parts-init
 expressions-parts-init t c =
@@ -34,25 +35,23 @@ pub expressions-parts-preserved : goal.expressions-parts-preserved
 expressions-parts-preserved t c =
     let inv = c.parts.invariant in
     let from = inv.0 in
-    let part = c.in-Ok.ensures in
+    let part = c.in_ok-at.ensures in
     let forward = part.goes.0 in
     let long : length c.parts.nodes ≡ length c.args.nodes.now = c.parts.auto.nodes in (
       omega arith,
       part.goes.2,
-      half_next (read_expr (length c.args.nodes.now) c.args.depth) encode c.args.source.now.text.now c.args.spot c.args.nodes.now c.parts.at c.parts.nodes inv.2 c.in-None.ensures c.in-Ok.end c.expression.new.nodes
-          (subst (λ k. OnPart c.args.source.now.text.now c.parts.at c.parts.nodes encode (read_expr k c.args.depth) (Ok c.in-Ok.end) c.expression.new.nodes) long part.told),
+      half_next (read_expr (length c.args.nodes.now) c.args.depth) encode c.args.source.now.text.now c.args.spot c.args.nodes.now c.parts.at c.parts.nodes inv.2 c.in_default.ensures c.in_ok-at.at c.expression.new.nodes
+          (subst (λ k. OnPart c.args.source.now.text.now c.parts.at c.parts.nodes encode (read_expr k c.args.depth) (Ok c.in_ok-at.at) c.expression.new.nodes) long part.told),
     )
 
-pub expressions-returns-in-Err : goal.expressions-returns-in-Err
-expressions-returns-in-Err t c =
+pub expressions-returns-in_err-at-clause-told : goal.expressions-returns-in_err-at-clause-told
+expressions-returns-in_err-at-clause-told t c =
     let inv = c.parts.invariant in
-    let part = c.in-Err.ensures in
+    let part = c.in_err-at.ensures in
     let long : length c.parts.nodes ≡ length c.args.nodes.now = c.parts.auto.nodes in
-    record {
-      goes = tt;
-      told = half_refused (read_expr (length c.args.nodes.now) c.args.depth) encode c.args.source.now.text.now c.args.spot c.args.nodes.now c.parts.at c.parts.nodes inv.2 c.in-None.ensures c.in-Err.refused c.expression.new.nodes
-          (subst (λ k. OnPart c.args.source.now.text.now c.parts.at c.parts.nodes encode (read_expr k c.args.depth) (Err c.in-Err.refused) c.expression.new.nodes) long part.told);
-    }
+    let e = err_from_is_err_and c.from_residual.result c.from_residual.ensures.1 in
+    rw (e.1, e.2) (half_refused (read_expr (length c.args.nodes.now) c.args.depth) encode c.args.source.now.text.now c.args.spot c.args.nodes.now c.parts.at c.parts.nodes inv.2 c.in_default.ensures c.in_err-at.field-0.0 c.expression.new.nodes
+        (subst (λ k. OnPart c.args.source.now.text.now c.parts.at c.parts.nodes encode (read_expr k c.args.depth) (Err c.in_err-at.field-0.0) c.expression.new.nodes) long part.told))
 
 pub bindings-parts-init : goal.bindings-parts-init
 bindings-parts-init t c =
@@ -70,25 +69,23 @@ pub bindings-parts-preserved : goal.bindings-parts-preserved
 bindings-parts-preserved t c =
     let inv = c.parts.invariant in
     let from = inv.0 in
-    let part = c.in-Ok.ensures in
+    let part = c.in_ok-at.ensures in
     let forward = part.goes.0 in
     let long : length c.parts.nodes ≡ length c.args.nodes.now = c.parts.auto.nodes in (
       omega arith,
       part.goes.2,
-      half_next (read_binding (length c.args.nodes.now) (read_expr (length c.args.nodes.now) c.args.depth)) encode_binding c.args.source.now.text.now c.args.spot c.args.nodes.now c.parts.at c.parts.nodes inv.2 c.in-None.ensures c.in-Ok.end c.binding.new.nodes
-          (subst (λ k. OnPart c.args.source.now.text.now c.parts.at c.parts.nodes encode_binding (read_binding k (read_expr k c.args.depth)) (Ok c.in-Ok.end) c.binding.new.nodes) long part.told),
+      half_next (read_binding (length c.args.nodes.now) (read_expr (length c.args.nodes.now) c.args.depth)) encode_binding c.args.source.now.text.now c.args.spot c.args.nodes.now c.parts.at c.parts.nodes inv.2 c.in_default.ensures c.in_ok-at.at c.binding.new.nodes
+          (subst (λ k. OnPart c.args.source.now.text.now c.parts.at c.parts.nodes encode_binding (read_binding k (read_expr k c.args.depth)) (Ok c.in_ok-at.at) c.binding.new.nodes) long part.told),
     )
 
-pub bindings-returns-in-Err : goal.bindings-returns-in-Err
-bindings-returns-in-Err t c =
+pub bindings-returns-in_err-at-clause-told : goal.bindings-returns-in_err-at-clause-told
+bindings-returns-in_err-at-clause-told t c =
     let inv = c.parts.invariant in
-    let part = c.in-Err.ensures in
+    let part = c.in_err-at.ensures in
     let long : length c.parts.nodes ≡ length c.args.nodes.now = c.parts.auto.nodes in
-    record {
-      goes = tt;
-      told = half_refused (read_binding (length c.args.nodes.now) (read_expr (length c.args.nodes.now) c.args.depth)) encode_binding c.args.source.now.text.now c.args.spot c.args.nodes.now c.parts.at c.parts.nodes inv.2 c.in-None.ensures c.in-Err.refused c.binding.new.nodes
-          (subst (λ k. OnPart c.args.source.now.text.now c.parts.at c.parts.nodes encode_binding (read_binding k (read_expr k c.args.depth)) (Err c.in-Err.refused) c.binding.new.nodes) long part.told);
-    }
+    let e = err_from_is_err_and c.from_residual.result c.from_residual.ensures.1 in
+    rw (e.1, e.2) (half_refused (read_binding (length c.args.nodes.now) (read_expr (length c.args.nodes.now) c.args.depth)) encode_binding c.args.source.now.text.now c.args.spot c.args.nodes.now c.parts.at c.parts.nodes inv.2 c.in_default.ensures c.in_err-at.field-0.0 c.binding.new.nodes
+        (subst (λ k. OnPart c.args.source.now.text.now c.parts.at c.parts.nodes encode_binding (read_binding k (read_expr k c.args.depth)) (Err c.in_err-at.field-0.0) c.binding.new.nodes) long part.told))
 
 pub branches-parts-init : goal.branches-parts-init
 branches-parts-init t c =
@@ -106,25 +103,23 @@ pub branches-parts-preserved : goal.branches-parts-preserved
 branches-parts-preserved t c =
     let inv = c.parts.invariant in
     let from = inv.0 in
-    let part = c.in_Ok-end-in-None.ensures in
+    let part = c.in_ok-at.ensures in
     let forward = part.goes.0 in
     let long : length c.parts.nodes ≡ length c.args.nodes.now = c.parts.auto.nodes in (
       omega arith,
       part.goes.2,
-      half_next (read_branch (length c.args.nodes.now) (read_expr (length c.args.nodes.now) c.args.depth)) encode_branch c.args.source.now.text.now c.args.spot c.args.nodes.now c.parts.at c.parts.nodes inv.2 c.in-None.ensures c.in_Ok-end-in-None.end c.branch-end.new.nodes
-          (subst (λ k. OnPart c.args.source.now.text.now c.parts.at c.parts.nodes encode_branch (read_branch k (read_expr k c.args.depth)) (Ok c.in_Ok-end-in-None.end) c.branch-end.new.nodes) long part.told),
+      half_next (read_branch (length c.args.nodes.now) (read_expr (length c.args.nodes.now) c.args.depth)) encode_branch c.args.source.now.text.now c.args.spot c.args.nodes.now c.parts.at c.parts.nodes inv.2 c.in_default.ensures c.in_ok-at.at c.branch-source.new.nodes
+          (subst (λ k. OnPart c.args.source.now.text.now c.parts.at c.parts.nodes encode_branch (read_branch k (read_expr k c.args.depth)) (Ok c.in_ok-at.at) c.branch-source.new.nodes) long part.told),
     )
 
-pub branches-returns-in_Err-end-in-None : goal.branches-returns-in_Err-end-in-None
-branches-returns-in_Err-end-in-None t c =
+pub branches-returns-in_err-at-clause-told : goal.branches-returns-in_err-at-clause-told
+branches-returns-in_err-at-clause-told t c =
     let inv = c.parts.invariant in
-    let part = c.in_Err-end-in-None.ensures in
+    let part = c.in_err-at.ensures in
     let long : length c.parts.nodes ≡ length c.args.nodes.now = c.parts.auto.nodes in
-    record {
-      goes = tt;
-      told = half_refused (read_branch (length c.args.nodes.now) (read_expr (length c.args.nodes.now) c.args.depth)) encode_branch c.args.source.now.text.now c.args.spot c.args.nodes.now c.parts.at c.parts.nodes inv.2 c.in-None.ensures c.in_Err-end-in-None.refused c.branch-end.new.nodes
-          (subst (λ k. OnPart c.args.source.now.text.now c.parts.at c.parts.nodes encode_branch (read_branch k (read_expr k c.args.depth)) (Err c.in_Err-end-in-None.refused) c.branch-end.new.nodes) long part.told);
-    }
+    let e = err_from_is_err_and c.from_residual.result c.from_residual.ensures.1 in
+    rw (e.1, e.2) (half_refused (read_branch (length c.args.nodes.now) (read_expr (length c.args.nodes.now) c.args.depth)) encode_branch c.args.source.now.text.now c.args.spot c.args.nodes.now c.parts.at c.parts.nodes inv.2 c.in_default.ensures c.in_err-at.field-0.0 c.branch-source.new.nodes
+        (subst (λ k. OnPart c.args.source.now.text.now c.parts.at c.parts.nodes encode_branch (read_branch k (read_expr k c.args.depth)) (Err c.in_err-at.field-0.0) c.branch-source.new.nodes) long part.told))
 
 pub expression-single-requires : goal.expression-single-requires
 expression-single-requires t c =
@@ -167,213 +162,172 @@ pub expression-returns-in-End : goal.expression-returns-in-End
 expression-returns-in-End t c =
     record { goes = tt; told = λ s rest n e a u. name_end c.args.source.now.text.now c.args.spot.place s rest n e a c.in-End.ensures }
 
+pub binding-returns-in_err-opened-clause-told : goal.binding-returns-in_err-opened-clause-told
+binding-returns-in_err-opened-clause-told t c =
+    let e = err_from_is_err_and c.from_residual.result c.from_residual.ensures.1 in
+    rw (e.1, e.2) (unlisted c.args.source.now.text.now c.args.spot c.args.nodes.now encode_binding (read_binding (length c.args.nodes.now) (read_expr (length c.args.nodes.now) c.args.depth)) c.in_err-opened.field-0.0 c.args.nodes.now c.in_err-opened.ensures (λ k p w n. refl))
+
 pub binding-returns-then-survey-ne2 : goal.binding-returns-then-survey-ne2
 binding-returns-then-survey-ne2 t c =
-    let sees = c.in-Open.ensures in
-    record { goes = tt; told = pair_wrong c.args.source.now.text.now c.args.spot c.args.nodes.now sees.0 sees.1.0 c.in-Open.at c.in-Open.inside sees.1.1 encode_binding (binding_of (length c.args.nodes.now) (read_expr (length c.args.nodes.now) c.args.depth) c.in-Open.at) (read_binding (length c.args.nodes.now) (read_expr (length c.args.nodes.now) c.args.depth)) (λ shape ss q n. refl) c.survey.result.parts (ap (λ s. s.parts) c.survey.ensures) c.wrong.result c.args.nodes.now c.if-survey-ne2.true (λ n. refl) c.wrong.ensures }
+    let sees = c.in_ok-opened.ensures in
+    record { goes = tt; told = pair_wrong c.args.source.now.text.now c.args.spot c.args.nodes.now sees.0 sees.1.0 c.in_ok-opened.opened.place c.in_ok-opened.opened.inside sees.1.1 encode_binding (binding_of (length c.args.nodes.now) (read_expr (length c.args.nodes.now) c.args.depth) c.in_ok-opened.opened.place) (read_binding (length c.args.nodes.now) (read_expr (length c.args.nodes.now) c.args.depth)) (λ shape ss q n. refl) c.survey.result.parts (ap (λ s. s.parts) c.survey.ensures) c.wrong.result c.args.nodes.now c.if-survey-ne2.true (λ n. refl) c.wrong.ensures }
 
-pub binding-returns-else-survey-ne2 : goal.binding-returns-else-survey-ne2
-binding-returns-else-survey-ne2 t c =
-    let sees = c.in-Open.ensures in
+pub binding-returns : goal.binding-returns
+binding-returns t c =
+    let sees = c.in_ok-opened.ensures in
     let forward = sees.1.1.forward in
     record {
-      goes = goes_back c.args.source.now.text.now c.args.spot (record { place = c.in-Open.inside; used = c.args.spot.used }) c.bound.result (omega arith) c.bound.ensures.goes;
-      told = pair_read c.args.source.now.text.now c.args.spot c.args.nodes.now sees.0 sees.1.0 c.in-Open.at c.in-Open.inside sees.1.1 encode_binding (binding_of (length c.args.nodes.now) (read_expr (length c.args.nodes.now) c.args.depth) c.in-Open.at) (read_binding (length c.args.nodes.now) (read_expr (length c.args.nodes.now) c.args.depth)) (λ shape ss q n. refl) c.survey.result.parts (ap (λ s. s.parts) c.survey.ensures) c.bound.result c.bound.new.nodes c.if-survey-ne2.false c.bound.ensures.told;
+      goes = goes_back c.args.source.now.text.now c.args.spot (record { place = c.in_ok-opened.opened.inside; used = c.args.spot.used }) c.bound.result (omega arith) c.bound.ensures.goes;
+      told = pair_read c.args.source.now.text.now c.args.spot c.args.nodes.now sees.0 sees.1.0 c.in_ok-opened.opened.place c.in_ok-opened.opened.inside sees.1.1 encode_binding (binding_of (length c.args.nodes.now) (read_expr (length c.args.nodes.now) c.args.depth) c.in_ok-opened.opened.place) (read_binding (length c.args.nodes.now) (read_expr (length c.args.nodes.now) c.args.depth)) (λ shape ss q n. refl) c.survey.result.parts (ap (λ s. s.parts) c.survey.ensures) c.bound.result c.bound.new.nodes c.if-survey-ne2.false c.bound.ensures.told;
     }
 
-pub binding-returns-in-Atom : goal.binding-returns-in-Atom
-binding-returns-in-Atom t c =
-    let sees = c.in-Atom.ensures in
-    record { goes = tt; told = atom_wrong c.args.source.now.text.now c.args.spot c.args.nodes.now encode_binding (read_binding (length c.args.nodes.now) (read_expr (length c.args.nodes.now) c.args.depth)) _ sees.0 c.in-Atom.at _ c.wrong-in-Atom.result c.args.nodes.now sees.1 sees.2 (λ n. refl) c.wrong-in-Atom.ensures }
-
-pub binding-returns-in-Close : goal.binding-returns-in-Close
-binding-returns-in-Close t c =
-    let sees = c.in-Close.ensures in
-    record { goes = tt; told = λ s rest n e a u. name_close c.args.source.now.text.now c.args.spot.place s rest n e a sees.0 sees.1.0 _ _ sees.1.1 }
-
-pub binding-returns-in-End : goal.binding-returns-in-End
-binding-returns-in-End t c =
-    record { goes = tt; told = λ s rest n e a u. name_end c.args.source.now.text.now c.args.spot.place s rest n e a c.in-End.ensures }
+pub branch-returns-in_err-opened-clause-told : goal.branch-returns-in_err-opened-clause-told
+branch-returns-in_err-opened-clause-told t c =
+    let e = err_from_is_err_and c.from_residual.result c.from_residual.ensures.1 in
+    rw (e.1, e.2) (unlisted c.args.source.now.text.now c.args.spot c.args.nodes.now encode_branch (read_branch (length c.args.nodes.now) (read_expr (length c.args.nodes.now) c.args.depth)) c.in_err-opened.field-0.0 c.args.nodes.now c.in_err-opened.ensures (λ k p w n. refl))
 
 pub branch-returns-then-survey-ne2 : goal.branch-returns-then-survey-ne2
 branch-returns-then-survey-ne2 t c =
-    let sees = c.in-Open.ensures in
-    record { goes = tt; told = pair_wrong c.args.source.now.text.now c.args.spot c.args.nodes.now sees.0 sees.1.0 c.in-Open.at c.in-Open.inside sees.1.1 encode_branch (branch_of (length c.args.nodes.now) (read_expr (length c.args.nodes.now) c.args.depth) c.in-Open.at) (read_branch (length c.args.nodes.now) (read_expr (length c.args.nodes.now) c.args.depth)) (λ shape ss q n. refl) c.survey.result.parts (ap (λ s. s.parts) c.survey.ensures) c.wrong.result c.args.nodes.now c.if-survey-ne2.true (λ n. refl) c.wrong.ensures }
+    let sees = c.in_ok-opened.ensures in
+    record { goes = tt; told = pair_wrong c.args.source.now.text.now c.args.spot c.args.nodes.now sees.0 sees.1.0 c.in_ok-opened.opened.place c.in_ok-opened.opened.inside sees.1.1 encode_branch (branch_of (length c.args.nodes.now) (read_expr (length c.args.nodes.now) c.args.depth) c.in_ok-opened.opened.place) (read_branch (length c.args.nodes.now) (read_expr (length c.args.nodes.now) c.args.depth)) (λ shape ss q n. refl) c.survey.result.parts (ap (λ s. s.parts) c.survey.ensures) c.wrong.result c.args.nodes.now c.if-survey-ne2.true (λ n. refl) c.wrong.ensures }
 
-pub branch-returns-else-survey-ne2 : goal.branch-returns-else-survey-ne2
-branch-returns-else-survey-ne2 t c =
-    let sees = c.in-Open.ensures in
+pub branch-returns : goal.branch-returns
+branch-returns t c =
+    let sees = c.in_ok-opened.ensures in
     let forward = sees.1.1.forward in
     record {
-      goes = goes_back c.args.source.now.text.now c.args.spot (record { place = c.in-Open.inside; used = c.args.spot.used }) c.arm.result (omega arith) c.arm.ensures.goes;
-      told = pair_read c.args.source.now.text.now c.args.spot c.args.nodes.now sees.0 sees.1.0 c.in-Open.at c.in-Open.inside sees.1.1 encode_branch (branch_of (length c.args.nodes.now) (read_expr (length c.args.nodes.now) c.args.depth) c.in-Open.at) (read_branch (length c.args.nodes.now) (read_expr (length c.args.nodes.now) c.args.depth)) (λ shape ss q n. refl) c.survey.result.parts (ap (λ s. s.parts) c.survey.ensures) c.arm.result c.arm.new.nodes c.if-survey-ne2.false c.arm.ensures.told;
+      goes = goes_back c.args.source.now.text.now c.args.spot (record { place = c.in_ok-opened.opened.inside; used = c.args.spot.used }) c.arm.result (omega arith) c.arm.ensures.goes;
+      told = pair_read c.args.source.now.text.now c.args.spot c.args.nodes.now sees.0 sees.1.0 c.in_ok-opened.opened.place c.in_ok-opened.opened.inside sees.1.1 encode_branch (branch_of (length c.args.nodes.now) (read_expr (length c.args.nodes.now) c.args.depth) c.in_ok-opened.opened.place) (read_branch (length c.args.nodes.now) (read_expr (length c.args.nodes.now) c.args.depth)) (λ shape ss q n. refl) c.survey.result.parts (ap (λ s. s.parts) c.survey.ensures) c.arm.result c.arm.new.nodes c.if-survey-ne2.false c.arm.ensures.told;
     }
 
-pub branch-returns-in-Atom : goal.branch-returns-in-Atom
-branch-returns-in-Atom t c =
-    let sees = c.in-Atom.ensures in
-    record { goes = tt; told = atom_wrong c.args.source.now.text.now c.args.spot c.args.nodes.now encode_branch (read_branch (length c.args.nodes.now) (read_expr (length c.args.nodes.now) c.args.depth)) _ sees.0 c.in-Atom.at _ c.wrong-in-Atom.result c.args.nodes.now sees.1 sees.2 (λ n. refl) c.wrong-in-Atom.ensures }
+pub bound-returns-in_err-name-clause-told : goal.bound-returns-in_err-name-clause-told
+bound-returns-in_err-name-clause-told t c =
+    let e = err_from_is_err_and c.from_residual-in_err-name.result c.from_residual-in_err-name.ensures.1 in
+    rw (e.1, e.2) (bound_unnamed c.args.source.now.text.now c.args.spot c.args.nodes.now (length c.args.nodes.now) c.args.place c.in_ok-first.first (read_expr (length c.args.nodes.now) c.args.depth) (sym c.in_ok-first.ensures) c.in_err-name.field-0.0 c.args.nodes.now c.in_err-name.ensures.told)
 
-pub branch-returns-in-Close : goal.branch-returns-in-Close
-branch-returns-in-Close t c =
-    let sees = c.in-Close.ensures in
-    record { goes = tt; told = λ s rest n e a u. name_close c.args.source.now.text.now c.args.spot.place s rest n e a sees.0 sees.1.0 _ _ sees.1.1 }
+pub bound-returns-in_err-end-clause-told : goal.bound-returns-in_err-end-clause-told
+bound-returns-in_err-end-clause-told t c =
+    let e = err_from_is_err_and c.from_residual-in_err-end.result c.from_residual-in_err-end.ensures.1 in
+    rw (e.1, e.2) (bound_refused c.args.source.now.text.now c.args.spot c.args.nodes.now (length c.args.nodes.now) c.args.place c.in_ok-first.first (read_expr (length c.args.nodes.now) c.args.depth) (sym c.in_ok-first.ensures) c.in_ok-name.name c.in_err-end.field-0.0 c.expressions.new.nodes c.in_ok-name.ensures.told c.in_err-end.ensures.told)
 
-pub branch-returns-in-End : goal.branch-returns-in-End
-branch-returns-in-End t c =
-    record { goes = tt; told = λ s rest n e a u. name_end c.args.source.now.text.now c.args.spot.place s rest n e a c.in-End.ensures }
+pub bound-returns-clause-told : goal.bound-returns-clause-told
+bound-returns-clause-told t c =
+    let head = c.in_ok-name.ensures in
+    let within = head.goes.1 in
+    let short = c.args.source.now.short in
+    rw (c.word.ensures head.goes.2 head.goes.3 (omega arith)) (bound_made c.args.source.now.text.now c.args.spot c.args.nodes.now (length c.args.nodes.now) c.args.place c.in_ok-first.first (read_expr (length c.args.nodes.now) c.args.depth) (sym c.in_ok-first.ensures) c.in_ok-name.name c.in_ok-end.end c.expressions.new.nodes head.told c.in_ok-end.ensures.told)
 
-pub bound-returns-in-Ok-expressions : goal.bound-returns-in-Ok-expressions
-bound-returns-in-Ok-expressions t c =
-    let head = c.in-Ok-name_at.ensures in
-    let rest = c.in-Ok-expressions.ensures in
-    let forward = head.goes.0 in
-    let more = rest.goes.0 in
-    record {
-      goes = (omega arith, rest.goes.1, rest.goes.2);
-      told = bound_made c.args.source.now.text.now c.args.spot c.args.nodes.now (length c.args.nodes.now) c.args.place c.in-Ok.first (read_expr (length c.args.nodes.now) c.args.depth) (sym c.in-Ok.ensures) c.in-Ok-name_at.name c.in-Ok-expressions.end c.expressions.new.nodes head.told rest.told;
-    }
+pub arm-returns-in_err-pattern-clause-told : goal.arm-returns-in_err-pattern-clause-told
+arm-returns-in_err-pattern-clause-told t c =
+    let e = err_from_is_err_and c.from_residual-in_err-pattern.result c.from_residual-in_err-pattern.ensures.1 in
+    rw (e.1, e.2) (arm_unmatched c.args.source.now.text.now c.args.spot c.args.nodes.now (length c.args.nodes.now) c.args.place c.in_ok-first.first (read_expr (length c.args.nodes.now) c.args.depth) (sym c.in_ok-first.ensures) c.in_err-pattern.field-0.0 c.args.nodes.now c.in_err-pattern.ensures.told)
 
-pub bound-returns-in-Err-expressions : goal.bound-returns-in-Err-expressions
-bound-returns-in-Err-expressions t c =
-    record { goes = tt; told = bound_refused c.args.source.now.text.now c.args.spot c.args.nodes.now (length c.args.nodes.now) c.args.place c.in-Ok.first (read_expr (length c.args.nodes.now) c.args.depth) (sym c.in-Ok.ensures) c.in-Ok-name_at.name c.in-Err-expressions.refused c.expressions.new.nodes c.in-Ok-name_at.ensures.told c.in-Err-expressions.ensures.told }
+pub arm-returns-in_err-end-clause-told : goal.arm-returns-in_err-end-clause-told
+arm-returns-in_err-end-clause-told t c =
+    let e = err_from_is_err_and c.from_residual-in_err-end.result c.from_residual-in_err-end.ensures.1 in
+    rw (e.1, e.2) (arm_refused c.args.source.now.text.now c.args.spot c.args.nodes.now (length c.args.nodes.now) c.args.place c.in_ok-first.first (read_expr (length c.args.nodes.now) c.args.depth) (sym c.in_ok-first.ensures) c.in_ok-pattern.pattern c.in_err-end.field-0.0 c.expressions.new.nodes c.in_ok-pattern.ensures.told c.in_err-end.ensures.told)
 
-pub bound-returns-in-Err-name_at : goal.bound-returns-in-Err-name_at
-bound-returns-in-Err-name_at t c =
-    record { goes = tt; told = bound_unnamed c.args.source.now.text.now c.args.spot c.args.nodes.now (length c.args.nodes.now) c.args.place c.in-Ok.first (read_expr (length c.args.nodes.now) c.args.depth) (sym c.in-Ok.ensures) c.in-Err-name_at.refused c.args.nodes.now c.in-Err-name_at.ensures.told }
+pub arm-returns-clause-told : goal.arm-returns-clause-told
+arm-returns-clause-told t c =
+    arm_made c.args.source.now.text.now c.args.spot c.args.nodes.now (length c.args.nodes.now) c.args.place c.in_ok-first.first (read_expr (length c.args.nodes.now) c.args.depth) (sym c.in_ok-first.ensures) c.in_ok-pattern.pattern c.in_ok-end.end c.expressions.new.nodes c.in_ok-pattern.ensures.told c.in_ok-end.ensures.told
 
-pub arm-returns-in-Ok-expressions : goal.arm-returns-in-Ok-expressions
-arm-returns-in-Ok-expressions t c =
-    let head = c.in-Ok-pattern_at.ensures in
-    let rest = c.in-Ok-expressions.ensures in
-    let forward = head.goes.0 in
-    let more = rest.goes.0 in
-    record {
-      goes = (omega arith, rest.goes.1, rest.goes.2);
-      told = arm_made c.args.source.now.text.now c.args.spot c.args.nodes.now (length c.args.nodes.now) c.args.place c.in-Ok.first (read_expr (length c.args.nodes.now) c.args.depth) (sym c.in-Ok.ensures) c.in-Ok-pattern_at.pattern c.in-Ok-expressions.end c.expressions.new.nodes head.told rest.told;
-    }
+pub case_form-returns-in_err-middle-clause-told : goal.case_form-returns-in_err-middle-clause-told
+case_form-returns-in_err-middle-clause-told t c =
+    let e = err_from_is_err_and c.from_residual-in_err-middle.result c.from_residual-in_err-middle.ensures.1 in
+    rw (e.1, e.2) (case_stopped c.args.source.now.text.now c.args.spot c.args.nodes.now (length c.args.nodes.now) c.args.place c.in_ok-first.first (read_expr (length c.args.nodes.now) c.args.depth) (sym c.in_ok-first.ensures) c.in_err-middle.field-0.0 c.expression.new.nodes c.in_err-middle.ensures.told)
 
-pub arm-returns-in-Err-expressions : goal.arm-returns-in-Err-expressions
-arm-returns-in-Err-expressions t c =
-    record { goes = tt; told = arm_refused c.args.source.now.text.now c.args.spot c.args.nodes.now (length c.args.nodes.now) c.args.place c.in-Ok.first (read_expr (length c.args.nodes.now) c.args.depth) (sym c.in-Ok.ensures) c.in-Ok-pattern_at.pattern c.in-Err-expressions.refused c.expressions.new.nodes c.in-Ok-pattern_at.ensures.told c.in-Err-expressions.ensures.told }
-
-pub arm-returns-in-Err-pattern_at : goal.arm-returns-in-Err-pattern_at
-arm-returns-in-Err-pattern_at t c =
-    record { goes = tt; told = arm_unmatched c.args.source.now.text.now c.args.spot c.args.nodes.now (length c.args.nodes.now) c.args.place c.in-Ok.first (read_expr (length c.args.nodes.now) c.args.depth) (sym c.in-Ok.ensures) c.in-Err-pattern_at.refused c.args.nodes.now c.in-Err-pattern_at.ensures.told }
-
-pub case_form-returns-in-Ok-branches : goal.case_form-returns-in-Ok-branches
-case_form-returns-in-Ok-branches t c =
-    let first = c.in-Ok-expression.ensures in
-    let rest = c.in-Ok-branches.ensures in
-    let forward = first.goes.0 in
-    let more = rest.goes.0 in
+pub case_form-returns-in_err-end-clause-told : goal.case_form-returns-in_err-end-clause-told
+case_form-returns-in_err-end-clause-told t c =
     let long : length c.expression.new.nodes ≡ length c.args.nodes.now = c.expression.auto.nodes in
-    record {
-      goes = (omega arith, rest.goes.1, rest.goes.2);
-      told = case_made c.args.source.now.text.now c.args.spot c.args.nodes.now (length c.args.nodes.now) c.args.place c.in-Ok.first (read_expr (length c.args.nodes.now) c.args.depth) (sym c.in-Ok.ensures) c.in-Ok-expression.middle c.in-Ok-branches.end c.expression.new.nodes c.branches.new.nodes first.told
-          (subst (λ k. OnEach c.args.source.now.text.now c.in-Ok-expression.middle c.expression.new.nodes (encode_each encode_branch) (read_each (read_branch k (read_expr k c.args.depth))) (Ok c.in-Ok-branches.end) c.branches.new.nodes) long rest.told);
-    }
+    let e = err_from_is_err_and c.from_residual-in_err-end.result c.from_residual-in_err-end.ensures.1 in
+    rw (e.1, e.2) (case_refused c.args.source.now.text.now c.args.spot c.args.nodes.now (length c.args.nodes.now) c.args.place c.in_ok-first.first (read_expr (length c.args.nodes.now) c.args.depth) (sym c.in_ok-first.ensures) c.in_ok-middle.middle c.in_err-end.field-0.0 c.expression.new.nodes c.branches.new.nodes c.in_ok-middle.ensures.told
+        (subst (λ k. OnEach c.args.source.now.text.now c.in_ok-middle.middle c.expression.new.nodes (encode_each encode_branch) (read_each (read_branch k (read_expr k c.args.depth))) (Err c.in_err-end.field-0.0) c.branches.new.nodes) long c.in_err-end.ensures.told))
 
-pub case_form-returns-in-Err-branches : goal.case_form-returns-in-Err-branches
-case_form-returns-in-Err-branches t c =
-    let first = c.in-Ok-expression.ensures in
-    let rest = c.in-Err-branches.ensures in
+pub case_form-returns-clause-told : goal.case_form-returns-clause-told
+case_form-returns-clause-told t c =
     let long : length c.expression.new.nodes ≡ length c.args.nodes.now = c.expression.auto.nodes in
-    record {
-      goes = tt;
-      told = case_refused c.args.source.now.text.now c.args.spot c.args.nodes.now (length c.args.nodes.now) c.args.place c.in-Ok.first (read_expr (length c.args.nodes.now) c.args.depth) (sym c.in-Ok.ensures) c.in-Ok-expression.middle c.in-Err-branches.refused c.expression.new.nodes c.branches.new.nodes first.told
-          (subst (λ k. OnEach c.args.source.now.text.now c.in-Ok-expression.middle c.expression.new.nodes (encode_each encode_branch) (read_each (read_branch k (read_expr k c.args.depth))) (Err c.in-Err-branches.refused) c.branches.new.nodes) long rest.told);
-    }
+    case_made c.args.source.now.text.now c.args.spot c.args.nodes.now (length c.args.nodes.now) c.args.place c.in_ok-first.first (read_expr (length c.args.nodes.now) c.args.depth) (sym c.in_ok-first.ensures) c.in_ok-middle.middle c.in_ok-end.end c.expression.new.nodes c.branches.new.nodes c.in_ok-middle.ensures.told
+    (subst (λ k. OnEach c.args.source.now.text.now c.in_ok-middle.middle c.expression.new.nodes (encode_each encode_branch) (read_each (read_branch k (read_expr k c.args.depth))) (Ok c.in_ok-end.end) c.branches.new.nodes) long c.in_ok-end.ensures.told)
 
-pub case_form-returns-in-Err-expression : goal.case_form-returns-in-Err-expression
-case_form-returns-in-Err-expression t c =
-    record { goes = tt; told = case_stopped c.args.source.now.text.now c.args.spot c.args.nodes.now (length c.args.nodes.now) c.args.place c.in-Ok.first (read_expr (length c.args.nodes.now) c.args.depth) (sym c.in-Ok.ensures) c.in-Err-expression.refused c.expression.new.nodes c.in-Err-expression.ensures.told }
+pub let_form-returns-in_err-opened-clause-told : goal.let_form-returns-in_err-opened-clause-told
+let_form-returns-in_err-opened-clause-told t c =
+    let e = err_from_is_err_and c.from_residual-in_err-opened.result c.from_residual-in_err-opened.ensures.1 in
+    rw (e.1, e.2) (let_unlisted c.args.source.now.text.now c.args.spot c.args.nodes.now (length c.args.nodes.now) c.args.place c.in_ok-first.first (read_expr (length c.args.nodes.now) c.args.depth) (sym c.in_ok-first.ensures) c.in_err-opened.field-0.0 c.args.nodes.now c.in_err-opened.ensures)
 
-pub let_form-returns-in-Ok-expressions : goal.let_form-returns-in-Ok-expressions
-let_form-returns-in-Ok-expressions t c =
-    let sees = c.in-Open.ensures in
-    let first = c.in-Ok-bindings.ensures in
-    let rest = c.in-Ok-expressions.ensures in
+pub let_form-returns-in_err-middle-clause-told : goal.let_form-returns-in_err-middle-clause-told
+let_form-returns-in_err-middle-clause-told t c =
+    let sees = c.in_ok-opened.ensures in
+    let e = err_from_is_err_and c.from_residual-in_err-middle.result c.from_residual-in_err-middle.ensures.1 in
+    rw (e.1, e.2) (let_stopped c.args.source.now.text.now c.args.spot c.args.nodes.now (length c.args.nodes.now) c.args.place c.in_ok-first.first (read_expr (length c.args.nodes.now) c.args.depth) (sym c.in_ok-first.ensures) sees.0 sees.1.0 _ c.in_ok-opened.opened.inside sees.1.1 c.in_err-middle.field-0.0 c.bindings.new.nodes c.in_err-middle.ensures.told)
+
+pub let_form-returns-in_err-end-clause-told : goal.let_form-returns-in_err-end-clause-told
+let_form-returns-in_err-end-clause-told t c =
+    let sees = c.in_ok-opened.ensures in
+    let long : length c.bindings.new.nodes ≡ length c.args.nodes.now = c.bindings.auto.nodes in
+    let e = err_from_is_err_and c.from_residual-in_err-end.result c.from_residual-in_err-end.ensures.1 in
+    rw (e.1, e.2) (let_refused c.args.source.now.text.now c.args.spot c.args.nodes.now (length c.args.nodes.now) c.args.place c.in_ok-first.first (read_expr (length c.args.nodes.now) c.args.depth) (sym c.in_ok-first.ensures) sees.0 sees.1.0 _ c.in_ok-opened.opened.inside sees.1.1 c.in_ok-middle.middle c.in_err-end.field-0.0 c.bindings.new.nodes c.expressions.new.nodes c.in_ok-middle.ensures.told
+        (subst (λ k. OnEach c.args.source.now.text.now c.in_ok-middle.middle c.bindings.new.nodes (encode_each encode) (read_each (read_expr k c.args.depth)) (Err c.in_err-end.field-0.0) c.expressions.new.nodes) long c.in_err-end.ensures.told))
+
+pub let_form-returns : goal.let_form-returns
+let_form-returns t c =
+    let sees = c.in_ok-opened.ensures in
+    let first = c.in_ok-middle.ensures in
+    let rest = c.in_ok-end.ensures in
     let forward = first.goes.0 in
     let more = rest.goes.0 in
     let before = sees.1.1.forward in
     let long : length c.bindings.new.nodes ≡ length c.args.nodes.now = c.bindings.auto.nodes in
     record {
       goes = (omega arith, rest.goes.1, rest.goes.2);
-      told = let_made c.args.source.now.text.now c.args.spot c.args.nodes.now (length c.args.nodes.now) c.args.place c.in-Ok.first (read_expr (length c.args.nodes.now) c.args.depth) (sym c.in-Ok.ensures) sees.0 sees.1.0 _ c.in-Open.inside sees.1.1 c.in-Ok-bindings.middle c.in-Ok-expressions.end c.bindings.new.nodes c.expressions.new.nodes first.told
-          (subst (λ k. OnEach c.args.source.now.text.now c.in-Ok-bindings.middle c.bindings.new.nodes (encode_each encode) (read_each (read_expr k c.args.depth)) (Ok c.in-Ok-expressions.end) c.expressions.new.nodes) long rest.told);
+      told = let_made c.args.source.now.text.now c.args.spot c.args.nodes.now (length c.args.nodes.now) c.args.place c.in_ok-first.first (read_expr (length c.args.nodes.now) c.args.depth) (sym c.in_ok-first.ensures) sees.0 sees.1.0 _ c.in_ok-opened.opened.inside sees.1.1 c.in_ok-middle.middle c.in_ok-end.end c.bindings.new.nodes c.expressions.new.nodes first.told
+          (subst (λ k. OnEach c.args.source.now.text.now c.in_ok-middle.middle c.bindings.new.nodes (encode_each encode) (read_each (read_expr k c.args.depth)) (Ok c.in_ok-end.end) c.expressions.new.nodes) long rest.told);
     }
 
-pub let_form-returns-in-Err-expressions : goal.let_form-returns-in-Err-expressions
-let_form-returns-in-Err-expressions t c =
-    let sees = c.in-Open.ensures in
-    let first = c.in-Ok-bindings.ensures in
-    let rest = c.in-Err-expressions.ensures in
-    let long : length c.bindings.new.nodes ≡ length c.args.nodes.now = c.bindings.auto.nodes in
-    record {
-      goes = tt;
-      told = let_refused c.args.source.now.text.now c.args.spot c.args.nodes.now (length c.args.nodes.now) c.args.place c.in-Ok.first (read_expr (length c.args.nodes.now) c.args.depth) (sym c.in-Ok.ensures) sees.0 sees.1.0 _ c.in-Open.inside sees.1.1 c.in-Ok-bindings.middle c.in-Err-expressions.refused c.bindings.new.nodes c.expressions.new.nodes first.told
-          (subst (λ k. OnEach c.args.source.now.text.now c.in-Ok-bindings.middle c.bindings.new.nodes (encode_each encode) (read_each (read_expr k c.args.depth)) (Err c.in-Err-expressions.refused) c.expressions.new.nodes) long rest.told);
-    }
-
-pub let_form-returns-in-Err-bindings : goal.let_form-returns-in-Err-bindings
-let_form-returns-in-Err-bindings t c =
-    let sees = c.in-Open.ensures in
-    record { goes = tt; told = let_stopped c.args.source.now.text.now c.args.spot c.args.nodes.now (length c.args.nodes.now) c.args.place c.in-Ok.first (read_expr (length c.args.nodes.now) c.args.depth) (sym c.in-Ok.ensures) sees.0 sees.1.0 _ c.in-Open.inside sees.1.1 c.in-Err-bindings.refused c.bindings.new.nodes c.in-Err-bindings.ensures.told }
-
-pub let_form-returns-in-Atom : goal.let_form-returns-in-Atom
-let_form-returns-in-Atom t c =
-    let sees = c.in-Atom.ensures in
-    record { goes = tt; told = let_atom c.args.source.now.text.now c.args.spot c.args.nodes.now (length c.args.nodes.now) c.args.place c.in-Ok.first (read_expr (length c.args.nodes.now) c.args.depth) (sym c.in-Ok.ensures) _ sees.0 c.in-Atom.at _ c.wrong.result c.args.nodes.now sees.1 sees.2 c.wrong.ensures }
-
-pub let_form-returns-in-Close : goal.let_form-returns-in-Close
-let_form-returns-in-Close t c =
-    let sees = c.in-Close.ensures in
-    record { goes = tt; told = λ bs e shape q rest n is a u. name_close c.args.source.now.text.now c.args.spot.place bs _ n is a.0 sees.0 sees.1.0 _ _ sees.1.1 }
-
-pub let_form-returns-in-End : goal.let_form-returns-in-End
-let_form-returns-in-End t c =
-    record { goes = tt; told = λ bs e shape q rest n is a u. name_end c.args.source.now.text.now c.args.spot.place bs _ n is a.0 c.in-End.ensures }
-
-pub list-returns-in-If : goal.list-returns-in-If
-list-returns-in-If t c =
+pub list-returns-in-Some-If : goal.list-returns-in-Some-If
+list-returns-in-Some-If t c =
     record {
       goes = goes_back c.args.source.now.text.now c.args.spot (record { place = c.behind.result; used = c.args.spot.used }) c.row.result c.behind.ensures.0 c.row.ensures.goes;
-      told = by_view c.args.source.now.text.now c.args.spot c.args.nodes.now (length c.args.nodes.now) c.args.depth c.args.place c.row.result c.row.new.nodes formkind.If (c.in-If.ensures ∙ ap (λ s. form_kind s.head s.parts) c.survey.ensures) (on_if c.args.source.now.text.now c.args.spot c.args.nodes.now (length c.args.nodes.now) c.args.depth c.args.place c.behind.result c.row.result c.row.new.nodes c.behind.ensures c.row.ensures.told);
+      told = by_view c.args.source.now.text.now c.args.spot c.args.nodes.now (length c.args.nodes.now) c.args.depth c.args.place c.row.result c.row.new.nodes (Some formkind.If) (ap Some (sym c.in-Some-If.field-0-is) ∙ c.in-Some-If.ensures ∙ ap (λ s. form_kind s.head s.parts) c.survey.ensures) (on_if c.args.source.now.text.now c.args.spot c.args.nodes.now (length c.args.nodes.now) c.args.depth c.args.place c.behind.result c.row.result c.row.new.nodes c.behind.ensures c.row.ensures.told);
     }
 
-pub list-returns-in-Begin : goal.list-returns-in-Begin
-list-returns-in-Begin t c =
+pub list-returns-in-Some-Begin : goal.list-returns-in-Some-Begin
+list-returns-in-Some-Begin t c =
     record {
-      goes = goes_back c.args.source.now.text.now c.args.spot (record { place = c.behind.result; used = c.args.spot.used }) c.row-in-Begin.result c.behind.ensures.0 c.row-in-Begin.ensures.goes;
-      told = by_view c.args.source.now.text.now c.args.spot c.args.nodes.now (length c.args.nodes.now) c.args.depth c.args.place c.row-in-Begin.result c.row-in-Begin.new.nodes formkind.Begin (c.in-Begin.ensures ∙ ap (λ s. form_kind s.head s.parts) c.survey.ensures) (on_begin c.args.source.now.text.now c.args.spot c.args.nodes.now (length c.args.nodes.now) c.args.depth c.args.place c.behind.result c.row-in-Begin.result c.row-in-Begin.new.nodes c.behind.ensures c.row-in-Begin.ensures.told);
+      goes = goes_back c.args.source.now.text.now c.args.spot (record { place = c.behind.result; used = c.args.spot.used }) c.row-in-Some-Begin.result c.behind.ensures.0 c.row-in-Some-Begin.ensures.goes;
+      told = by_view c.args.source.now.text.now c.args.spot c.args.nodes.now (length c.args.nodes.now) c.args.depth c.args.place c.row-in-Some-Begin.result c.row-in-Some-Begin.new.nodes (Some formkind.Begin) (ap Some (sym c.in-Some-Begin.field-0-is) ∙ c.in-Some-Begin.ensures ∙ ap (λ s. form_kind s.head s.parts) c.survey.ensures) (on_begin c.args.source.now.text.now c.args.spot c.args.nodes.now (length c.args.nodes.now) c.args.depth c.args.place c.behind.result c.row-in-Some-Begin.result c.row-in-Some-Begin.new.nodes c.behind.ensures c.row-in-Some-Begin.ensures.told);
     }
 
-pub list-returns-in-Let : goal.list-returns-in-Let
-list-returns-in-Let t c =
+pub list-returns-in-Some-Let : goal.list-returns-in-Some-Let
+list-returns-in-Some-Let t c =
     record {
       goes = goes_back c.args.source.now.text.now c.args.spot (record { place = c.behind.result; used = c.args.spot.used }) c.let_form.result c.behind.ensures.0 c.let_form.ensures.goes;
-      told = by_view c.args.source.now.text.now c.args.spot c.args.nodes.now (length c.args.nodes.now) c.args.depth c.args.place c.let_form.result c.let_form.new.nodes formkind.Let (c.in-Let.ensures ∙ ap (λ s. form_kind s.head s.parts) c.survey.ensures) (on_let c.args.source.now.text.now c.args.spot c.args.nodes.now (length c.args.nodes.now) c.args.depth c.args.place c.behind.result c.let_form.result c.let_form.new.nodes c.behind.ensures c.let_form.ensures.told);
+      told = by_view c.args.source.now.text.now c.args.spot c.args.nodes.now (length c.args.nodes.now) c.args.depth c.args.place c.let_form.result c.let_form.new.nodes (Some formkind.Let) (ap Some (sym c.in-Some-Let.field-0-is) ∙ c.in-Some-Let.ensures ∙ ap (λ s. form_kind s.head s.parts) c.survey.ensures) (on_let c.args.source.now.text.now c.args.spot c.args.nodes.now (length c.args.nodes.now) c.args.depth c.args.place c.behind.result c.let_form.result c.let_form.new.nodes c.behind.ensures c.let_form.ensures.told);
     }
 
-pub list-returns-in-Case : goal.list-returns-in-Case
-list-returns-in-Case t c =
+pub list-returns-in-Some-Case : goal.list-returns-in-Some-Case
+list-returns-in-Some-Case t c =
     record {
       goes = goes_back c.args.source.now.text.now c.args.spot (record { place = c.behind.result; used = c.args.spot.used }) c.case_form.result c.behind.ensures.0 c.case_form.ensures.goes;
-      told = by_view c.args.source.now.text.now c.args.spot c.args.nodes.now (length c.args.nodes.now) c.args.depth c.args.place c.case_form.result c.case_form.new.nodes formkind.Case (c.in-Case.ensures ∙ ap (λ s. form_kind s.head s.parts) c.survey.ensures) (on_case c.args.source.now.text.now c.args.spot c.args.nodes.now (length c.args.nodes.now) c.args.depth c.args.place c.behind.result c.case_form.result c.case_form.new.nodes c.behind.ensures c.case_form.ensures.told);
+      told = by_view c.args.source.now.text.now c.args.spot c.args.nodes.now (length c.args.nodes.now) c.args.depth c.args.place c.case_form.result c.case_form.new.nodes (Some formkind.Case) (ap Some (sym c.in-Some-Case.field-0-is) ∙ c.in-Some-Case.ensures ∙ ap (λ s. form_kind s.head s.parts) c.survey.ensures) (on_case c.args.source.now.text.now c.args.spot c.args.nodes.now (length c.args.nodes.now) c.args.depth c.args.place c.behind.result c.case_form.result c.case_form.new.nodes c.behind.ensures c.case_form.ensures.told);
     }
 
-pub list-returns-in-Dup : goal.list-returns-in-Dup
-list-returns-in-Dup t c =
+pub list-returns-in-Some-Dup : goal.list-returns-in-Some-Dup
+list-returns-in-Some-Dup t c =
     record {
       goes = goes_back c.args.source.now.text.now c.args.spot (record { place = c.behind.result; used = c.args.spot.used }) c.dup_form.result c.behind.ensures.0 c.dup_form.ensures.goes;
-      told = by_view c.args.source.now.text.now c.args.spot c.args.nodes.now (length c.args.nodes.now) c.args.depth c.args.place c.dup_form.result c.dup_form.new.nodes formkind.Dup (c.in-Dup.ensures ∙ ap (λ s. form_kind s.head s.parts) c.survey.ensures) (on_dup c.args.source.now.text.now c.args.spot c.args.nodes.now (length c.args.nodes.now) c.args.depth c.args.place c.behind.result c.dup_form.result c.dup_form.new.nodes c.behind.ensures c.dup_form.ensures.told);
+      told = by_view c.args.source.now.text.now c.args.spot c.args.nodes.now (length c.args.nodes.now) c.args.depth c.args.place c.dup_form.result c.dup_form.new.nodes (Some formkind.Dup) (ap Some (sym c.in-Some-Dup.field-0-is) ∙ c.in-Some-Dup.ensures ∙ ap (λ s. form_kind s.head s.parts) c.survey.ensures) (on_dup c.args.source.now.text.now c.args.spot c.args.nodes.now (length c.args.nodes.now) c.args.depth c.args.place c.behind.result c.dup_form.result c.dup_form.new.nodes c.behind.ensures c.dup_form.ensures.told);
     }
 
-pub list-returns-in-Apply : goal.list-returns-in-Apply
-list-returns-in-Apply t c =
-    record { goes = c.row-in-Apply.ensures.goes; told = by_view c.args.source.now.text.now c.args.spot c.args.nodes.now (length c.args.nodes.now) c.args.depth c.args.place c.row-in-Apply.result c.row-in-Apply.new.nodes formkind.Apply (c.in-Apply.ensures ∙ ap (λ s. form_kind s.head s.parts) c.survey.ensures) (on_apply c.args.source.now.text.now c.args.spot c.args.nodes.now (length c.args.nodes.now) c.args.depth c.args.place c.behind.result c.row-in-Apply.result c.row-in-Apply.new.nodes c.behind.ensures c.row-in-Apply.ensures.told) }
+pub list-returns-in-Some-Apply : goal.list-returns-in-Some-Apply
+list-returns-in-Some-Apply t c =
+    record {
+      goes = c.row-in-Some-Apply.ensures.goes;
+      told = by_view c.args.source.now.text.now c.args.spot c.args.nodes.now (length c.args.nodes.now) c.args.depth c.args.place c.row-in-Some-Apply.result c.row-in-Some-Apply.new.nodes (Some formkind.Apply) (ap Some (sym c.in-Some-Apply.field-0-is) ∙ c.in-Some-Apply.ensures ∙ ap (λ s. form_kind s.head s.parts) c.survey.ensures) (on_apply c.args.source.now.text.now c.args.spot c.args.nodes.now (length c.args.nodes.now) c.args.depth c.args.place c.behind.result c.row-in-Some-Apply.result c.row-in-Some-Apply.new.nodes c.behind.ensures c.row-in-Some-Apply.ensures.told);
+    }
 
-pub list-returns-in-Wrong : goal.list-returns-in-Wrong
-list-returns-in-Wrong t c =
-    record { goes = tt; told = by_view c.args.source.now.text.now c.args.spot c.args.nodes.now (length c.args.nodes.now) c.args.depth c.args.place (Err c.wrong.result) c.args.nodes.now formkind.Wrong (c.in-Wrong.ensures ∙ ap (λ s. form_kind s.head s.parts) c.survey.ensures) (on_wrong c.args.source.now.text.now c.args.spot c.args.nodes.now (length c.args.nodes.now) c.args.depth c.args.place c.behind.result (Err c.wrong.result) c.args.nodes.now c.behind.ensures (ap Err c.wrong.ensures)) }
+pub list-returns-in-None : goal.list-returns-in-None
+list-returns-in-None t c =
+    record {
+      goes = tt;
+      told = by_view c.args.source.now.text.now c.args.spot c.args.nodes.now (length c.args.nodes.now) c.args.depth c.args.place (Err c.wrong.result) c.args.nodes.now None (c.in-None.ensures ∙ ap (λ s. form_kind s.head s.parts) c.survey.ensures) (on_wrong c.args.source.now.text.now c.args.spot c.args.nodes.now (length c.args.nodes.now) c.args.depth c.args.place c.behind.result (Err c.wrong.result) c.args.nodes.now c.behind.ensures (ap Err c.wrong.ensures));
+    }

@@ -1,22 +1,23 @@
 use Rattle.std.proofs.Common.{◌≤◌, length, sym, arith, rules}
+use Rattle.std.proofs.lemmas.Result.{err_from_is_err_and}
 use Rattle.grammar.specs.Reading.{read_expr}
 use Rattle.forms.proofs.ReaderLaws.{dup_made, dup_open, dup_unnamed}
 use Rattle.forms.proofs.expressions.dup_form.Goals as goal
 
-pub returns-in-Some : goal.returns-in-Some
-returns-in-Some c =
-    let name = c.in-Ok-name_at.ensures in
-    let closes = c.in-Some.ensures in
-    let forward = name.goes.0 in
-    let more = closes.1.1.1.forward in
-    let most : c.in-Ok.past ≤ 4096 = search rules in
-    record {
-      goes = (omega arith, closes.1.1.1.within, most);
-      told = λ depth. dup_made c.args.source.now.text.now c.args.spot c.args.nodes.now (length c.args.nodes.now) c.args.place c.in-Ok.past (read_expr (length c.args.nodes.now) depth) (sym c.in-Ok.ensures) c.in-Ok-name_at.name c.in-Some.after name.told closes;
-    }
+pub returns-in_err-name-clause-told : goal.returns-in_err-name-clause-told
+returns-in_err-name-clause-told c =
+    let e = err_from_is_err_and c.from_residual-in_err-name.result c.from_residual-in_err-name.ensures.1 in
+    rw (e.1, e.2) (λ depth. dup_unnamed c.args.source.now.text.now c.args.spot c.args.nodes.now (length c.args.nodes.now) c.args.place c.in_ok-past.past (read_expr (length c.args.nodes.now) depth) (sym c.in_ok-past.ensures) c.in_err-name.field-0.0 c.args.nodes.now c.in_err-name.ensures.told)
 
-pub returns-in-None : goal.returns-in-None
-returns-in-None c = record { goes = tt; told = λ depth. dup_open c.args.source.now.text.now c.args.spot c.args.nodes.now (length c.args.nodes.now) c.args.place c.in-Ok.past (read_expr (length c.args.nodes.now) depth) (sym c.in-Ok.ensures) c.in-Ok-name_at.name c.wrong.result c.args.nodes.now c.in-Ok-name_at.ensures.told c.in-None.ensures }
+pub returns-in_err-after-clause-told : goal.returns-in_err-after-clause-told
+returns-in_err-after-clause-told c =
+    let no = c.in_err-after.ensures in
+    let e = err_from_is_err_and c.from_residual-in_err-after.result c.from_residual-in_err-after.ensures.1 in
+    rw (e.1, e.2, no.1) (λ depth. dup_open c.args.source.now.text.now c.args.spot c.args.nodes.now (length c.args.nodes.now) c.args.place c.in_ok-past.past (read_expr (length c.args.nodes.now) depth) (sym c.in_ok-past.ensures) c.in_ok-name.name _ c.args.nodes.now c.in_ok-name.ensures.told no.0)
 
-pub returns-in-Err-name_at : goal.returns-in-Err-name_at
-returns-in-Err-name_at c = record { goes = tt; told = λ depth. dup_unnamed c.args.source.now.text.now c.args.spot c.args.nodes.now (length c.args.nodes.now) c.args.place c.in-Ok.past (read_expr (length c.args.nodes.now) depth) (sym c.in-Ok.ensures) c.in-Err-name_at.refused c.args.nodes.now c.in-Err-name_at.ensures.told }
+pub returns-clause-told : goal.returns-clause-told
+returns-clause-told c =
+    let name = c.in_ok-name.ensures in
+    let within = name.goes.1 in
+    let short = c.args.source.now.short in
+    rw (c.word.ensures name.goes.2 name.goes.3 (omega arith)) (λ depth. dup_made c.args.source.now.text.now c.args.spot c.args.nodes.now (length c.args.nodes.now) c.args.place c.in_ok-past.past (read_expr (length c.args.nodes.now) depth) (sym c.in_ok-past.ensures) c.in_ok-name.name c.in_ok-after.after name.told c.in_ok-after.ensures)
