@@ -1,8 +1,8 @@
 -- Single tokens and the claim of a node, in the code and in the rules.
-use Rattle.std.proofs.Common.{◌≡◌, ℕ, ◌+◌, min, Bool, true, false, cond, ltb, List, [], ◌∷◌, length, set, Some, None, Ok, Err, Option, Result, sym, refl, ap, ◌∙◌, subst, arith}
+use Rattle.std.proofs.Common.{◌≡◌, ℕ, ◌+◌, min, Bool, true, false, cond, ltb, List, [], ◌∷◌, length, Some, None, Ok, Err, Option, Result, sym, refl, ap, ◌∙◌, arith}
 use Rattle.text.specs.Grammar.{Spelt}
 use Rattle.text.specs.Scans.{refused_at}
-use Rattle.text.specs.Tokens.{Lexed, lexed_from}
+use Rattle.text.specs.Tokens.{Lexed}
 use Rattle.text.specs.declared.keyword.Keyword.{Keyword}
 use Rattle.text.specs.declared.keyword.Keyword.TheVariants as keyword
 use Rattle.text.specs.declared.refusal.Refusal.TheVariants as refusal
@@ -13,8 +13,7 @@ use Rattle.forms.specs.Atoms.{keyword_form, leaf_form, claimed}
 use Rattle.layout.specs.Encoding.{node}
 use Rattle.forms.specs.Drafts.{encode}
 use Rattle.grammar.specs.Forms.{is_key}
-use Rattle.forms.specs.Progress.{Told, puts}
-use Rattle.grammar.specs.Reading.{Tally, Outcome, refused, made, count_node, keyword_expr, atom_expr, expr_atom}
+use Rattle.grammar.specs.Reading.{Tally, Outcome, refused, count_node, keyword_expr, atom_expr}
 use Rattle.grammar.specs.Trees.{Expr, integer, symbol, boolean, unit, name}
 use Rattle.layout.specs.declared.node.Node.{Node}
 use Rattle.layout.specs.declared.node.NodeForm.{NodeForm}
@@ -99,22 +98,3 @@ module _ (text w : List ℕ) (k : TokenKind) (place after used entries : ℕ) (f
     (size : after ≡ place + length w) (spelt : Spelt k w) (some : Some form ≡ leaf_form k place (length w)) (same : n.nodes ≡ used) where
   leaf : Leaf entries k place w form
   leaf = a_leaf entries k place (length w) w form refl spelt (sym some)
-
-  pub single_denied : (x : Refused) → claimed used entries place ≡ Err x
-      → Told text rest (record { place = place; used = used }) ns (encode used) (expr_atom entries place (atom_expr entries k place w) n) (Err x) ns
-  single_denied x e =
-      let l = leaf in
-      let d = denied entries used place x n (λ n. made l.expr n) same e in
-      subst (λ o. Told text rest (record { place = place; used = used }) ns (encode used) o (Err x) ns)
-      (sym (ap (λ o. expr_atom entries place o n) l.is ∙ d)) refl
-
-  pub single_granted : (m : ℕ) → lexed_from text after ≡ rest → claimed used entries place ≡ Ok m
-      → Told text rest (record { place = place; used = used }) ns (encode used) (expr_atom entries place (atom_expr entries k place w) n) (Ok (record { place = after; used = m })) (set ns used (node form place m))
-  single_granted m there e =
-      let l = leaf in
-      let g = granted entries used place m n (λ n. made l.expr n) same e in
-      let m_is = g.0 in
-      let nodes_is : encode used l.expr ≡ node form place (used + 1) ∷ [] = l.lies used in
-      subst (λ o. Told text rest (record { place = place; used = used }) ns (encode used) o (Ok (record { place = after; used = m })) (set ns used (node form place m)))
-      (sym (ap (λ o. expr_atom entries place o n) l.is ∙ g.1))
-      (omega arith, omega (arith, ap length nodes_is), there, ap (λ p. set ns used (node form place p)) m_is ∙ sym (ap (puts ns used) nodes_is))

@@ -1,5 +1,5 @@
 -- The lists that are open while a text is passed, and the table of their numbers of parts.
-use Rattle.std.proofs.Common.{◌≡◌, ℕ, suc, ◌+◌, ◌-◌, ◌<◌, ◌≤◌, min, cond, ◌⊎◌, List, [], ◌∷◌, length, get_or, replicate, set, ap, ◌∙◌, subst, sym, inl, inr, arith, zero-add, ne_eqb}
+use Rattle.std.proofs.Common.{◌≡◌, ℕ, suc, ◌+◌, ◌-◌, ◌<◌, ◌≤◌, min, cond, ◌⊎◌, List, [], ◌∷◌, length, Some, None, Option, get_or, replicate, set, ap, ◌∙◌, subst, sym, inl, inr, arith, zero-add, ne_eqb}
 use Rattle.std.proofs.lemmas.Bool.{cases_lt, cases_eq}
 use Rattle.std.proofs.lemmas.List.{get_or-set_same, get_or-set_other, set_past, get_or-replicate, get_or_past, length-replicate}
 use Rattle.text.specs.Grammar.{NoBracket}
@@ -10,6 +10,9 @@ use Rattle.text.specs.declared.token.TokenKind.TheVariants as kind
 use Rattle.forms.specs.Surveys.{counted, parts_of, Known, added}
 use Rattle.forms.specs.declared.counting.OpenList.{OpenList}
 use Rattle.forms.proofs.SurveyLaws.{counted_atom, not_here}
+
+clash : {x : ℕ} → ◌≡◌ {A = Option ℕ} None (Some x) → ⊥
+clash z = cc
 
 -- For each open list, the newest first, the parts so far and those to come are its parts; so many brackets are open inside it.
 abbrev pub Pending : List ℕ → Lexed → ℕ → List OpenList → Type 0
@@ -59,7 +62,7 @@ pending_open text r p w after (e ∷ es) h =
 
 -- a bracket that closes the newest list
 pub pending_close : (text : List ℕ) (r : Bracket) (p : ℕ) (w : List ℕ) (l : Lexed) (e : OpenList) (es : List OpenList) → Pending text (also (lexeme (kind.Close r) p w) l) 0 (e ∷ es)
-    → (min 7 e.parts + 1 ≡ suc (parts_of (lexed_from text e.inside))) × Pending text l 0 es
+    → (min 7 e.parts ≡ parts_of (lexed_from text e.inside)) × Pending text l 0 es
 pending_close text r p w l e es h =
     let all = h.0 in (
       omega arith,
@@ -70,25 +73,24 @@ pending_close text r p w l e es h =
     )
 
 -- one entry of the table more
-pub known_set : (text counts : List ℕ) (i v : ℕ) → v ≡ suc (parts_of (lexed_from text i)) → Known text counts → Known text (set counts i v)
-known_set text counts i v is known place = go (cases_eq place i) (cases_lt i (length counts))
+pub known_set : (text : List ℕ) (counts : List (Option ℕ)) (i v : ℕ) → v ≡ parts_of (lexed_from text i) → Known text counts → Known text (set counts i (Some v))
+known_set text counts i v is known place parts = go (cases_eq place i) (cases_lt i (length counts))
   where
-    go : (place ≡ i) ⊎ (place ≡ i → ⊥) → (i < length counts) ⊎ (length counts ≤ i) → 0 < get_or (set counts i v) place 0 → get_or (set counts i v) place 0 ≡ suc (parts_of (lexed_from text place))
-    go (inl e) (inl h) some = ap (λ j. get_or (set counts i v) j 0) e ∙ get_or-set_same counts i v 0 h ∙ is ∙ ap (λ j. suc (parts_of (lexed_from text j))) (sym e)
-    go (inr n) h some =
-        let same : get_or (set counts i v) place 0 ≡ get_or counts place 0 = get_or-set_other counts i place v 0 n in
-        same ∙ known place (omega arith)
-    go (inl e) (inr h) some =
-        let same : set counts i v ≡ counts = set_past counts i v h in
-        ap (λ xs. get_or xs place 0) same ∙ known place (subst (λ xs. 0 < get_or xs place 0) same some)
+    go : (place ≡ i) ⊎ (place ≡ i → ⊥) → (i < length counts) ⊎ (length counts ≤ i) → get_or (set counts i (Some v)) place None ≡ Some parts → parts ≡ parts_of (lexed_from text place)
+    go (inl e) (inl h) some =
+        let here : Some v ≡ Some parts = sym (get_or-set_same counts i (Some v) None h) ∙ ap (λ j. get_or (set counts i (Some v)) j None) (sym e) ∙ some in
+        let same : v ≡ parts = cc in
+        sym same ∙ is ∙ ap (λ j. parts_of (lexed_from text j)) (sym e)
+    go (inr n) h some = known place parts (sym (get_or-set_other counts i place (Some v) None n) ∙ some)
+    go (inl e) (inr h) some = known place parts (subst (λ xs. get_or xs place None ≡ Some parts) (set_past counts i (Some v) h) some)
 
 -- a table that tells nothing
-pub known_none : (text : List ℕ) (n : ℕ) → Known text (replicate {A = ℕ} n 0)
-known_none text n place = go (cases_lt place n)
+pub known_none : (text : List ℕ) (n : ℕ) → Known text (replicate {A = Option ℕ} n None)
+known_none text n place parts = go (cases_lt place n)
   where
-    none : get_or (replicate {A = ℕ} n 0) place 0 ≡ 0 → 0 < get_or (replicate {A = ℕ} n 0) place 0 → get_or (replicate {A = ℕ} n 0) place 0 ≡ suc (parts_of (lexed_from text place))
-    none e some = absurd (let less : 0 < get_or (replicate {A = ℕ} n 0) place 0 = some in omega arith)
+    nothing : ◌≡◌ {A = Option ℕ} (get_or (replicate {A = Option ℕ} n None) place None) None → get_or (replicate {A = Option ℕ} n None) place None ≡ Some parts → parts ≡ parts_of (lexed_from text place)
+    nothing e some = absurd (clash (sym e ∙ some))
 
-    go : (place < n) ⊎ (n ≤ place) → 0 < get_or (replicate {A = ℕ} n 0) place 0 → get_or (replicate {A = ℕ} n 0) place 0 ≡ suc (parts_of (lexed_from text place))
-    go (inl h) = none (get_or-replicate n place 0 0 h)
-    go (inr h) = none (get_or_past (replicate {A = ℕ} n 0) place 0 (let size : length (replicate {A = ℕ} n 0) ≡ n = length-replicate {A = ℕ} n 0 in omega arith))
+    go : (place < n) ⊎ (n ≤ place) → get_or (replicate {A = Option ℕ} n None) place None ≡ Some parts → parts ≡ parts_of (lexed_from text place)
+    go (inl h) = nothing (get_or-replicate n place None None h)
+    go (inr h) = nothing (get_or_past (replicate {A = Option ℕ} n None) place None (let size : length (replicate {A = Option ℕ} n None) ≡ n = length-replicate {A = Option ℕ} n None in omega arith))

@@ -9,12 +9,12 @@ use Rattle.text.specs.declared.refusal.Refusal.TheVariants as refusal
 use Rattle.text.specs.declared.token.TokenKind.{TokenKind}
 use Rattle.text.specs.declared.token.TokenKind.TheVariants as kind
 use Rattle.forms.specs.Looks.{Seen, Named, NotClosing}
-use Rattle.forms.specs.Patterns.{wildcard_kind, part_kind, Passed, PassedAll, Patterned}
-use Rattle.grammar.specs.Reading.{Tally, Outcome, refused, made, and_then, part_of, read_part, read_parts, name_read, read_constructor_pattern, wildcard_of, read_pattern}
+use Rattle.forms.specs.Patterns.{part_kind, Passed, PassedAll, Patterned}
+use Rattle.grammar.specs.Reading.{Tally, Outcome, refused, made, and_then, part_of, read_part, read_parts, name_read, read_constructor_pattern, read_pattern}
 use Rattle.forms.specs.Rows.{closed_by}
 use Rattle.grammar.specs.Sexps.{Sexp, Sexps, nil, cons, closing, Atoms}
 use Rattle.grammar.specs.Streams.{stream}
-use Rattle.grammar.specs.Trees.{Ident, PatternPart, skipped, Pattern, wildcard, constructor}
+use Rattle.grammar.specs.Trees.{Ident, PatternPart, skipped, Pattern, constructor}
 use Rattle.forms.specs.declared.names.NameAt.{NameAt}
 use Rattle.forms.proofs.LookLaws.{is_atom, is_list, some_token}
 use Rattle.forms.proofs.RowLaws.{left_none}
@@ -42,22 +42,6 @@ part_wrong (kind.Open r) p w n e = refl
 part_wrong (kind.Close r) p w n e = refl
 part_wrong kind.Symbol p w n e = refl
 part_wrong (kind.Integer z) p w n e = refl
-
-pub wild_good : (k : TokenKind) (p : ℕ) (n : Tally) → wildcard_kind k ≡ true → wildcard_of k p n ≡ made (wildcard p) n
-wild_good (kind.Keyword k) p n e = rw e refl
-wild_good kind.Name p n e = absurd (clash cc)
-wild_good (kind.Open r) p n e = absurd (clash cc)
-wild_good (kind.Close r) p n e = absurd (clash cc)
-wild_good kind.Symbol p n e = absurd (clash cc)
-wild_good (kind.Integer z) p n e = absurd (clash cc)
-
-pub wild_wrong : (k : TokenKind) (p : ℕ) (n : Tally) → wildcard_kind k ≡ false → wildcard_of k p n ≡ refused (refused_at refusal.Form p)
-wild_wrong (kind.Keyword k) p n e = rw e refl
-wild_wrong kind.Name p n e = refl
-wild_wrong (kind.Open r) p n e = refl
-wild_wrong (kind.Close r) p n e = refl
-wild_wrong kind.Symbol p n e = refl
-wild_wrong (kind.Integer z) p n e = refl
 
 -- what is passed on
 pub passed_on : {A B : Type 0} (text : List ℕ) (rest : Lexed) (o : Outcome A) (f : A → B) (r : Result ℕ Refused) → Passed text rest o r → Passed text rest (and_then o (λ a n. made (f a) n)) r
@@ -107,11 +91,6 @@ module _ (text : List ℕ) (at : ℕ) where
 
 -- A constructor and its parts.
 module _ (text : List ℕ) (place at : ℕ) where
-  pub constructor_none : (k : Bracket) (w : List ℕ) (p after : ℕ) (x : Refused) → Seen text at (kind.Close k) w p after → x ≡ refused_at refusal.Form place → PassedAll (read_constructor_pattern place) text at (Err x)
-  constructor_none k w p after x seen is_x ss shape q rest n e a =
-      let l = left_none ss shape q rest k p w (lexed_from text after) (sym e ∙ seen.follows) a in
-      subst (λ ss. Passed text rest (read_constructor_pattern place ss n) (Err x)) (sym l.0) (ap Err is_x)
-
   abbrev Names : Result NameAt Refused → Type 0
   Names r = (s : Sexp) (rest : Lexed) (n : Tally) → lexed_from text at ≡ stream s rest → Atoms s → Named text rest (name_read s n) r
 
@@ -149,16 +128,6 @@ pattern_refused text rest (refused y) x t = let z : x ≡ y = cc in ap Err z
 pattern_refused text rest (made a m) x t = absurd t
 
 module _ (text : List ℕ) (place : ℕ) (s : Sexp) (rest : Lexed) (n : Tally) (e : lexed_from text place ≡ stream s rest) (a : Atoms s) where
-  pub pattern_wild : (k : TokenKind) (w : List ℕ) (p after : ℕ) → Seen text place k w p after → NoBracket k → wildcard_kind k ≡ true → Patterned text rest (read_pattern s n) (Ok (record { place = p; after = after }))
-  pattern_wild k w p after seen b good =
-      let is = is_atom k p w (lexed_from text after) s rest b (sym seen.follows ∙ e) in
-      subst (λ o. Patterned text rest o (Ok (record { place = p; after = after }))) (sym (ap (λ s. read_pattern s n) is.0 ∙ wild_good k p n good)) (refl, is.1)
-
-  pub pattern_other : (k : TokenKind) (w : List ℕ) (p after : ℕ) (x : Refused) → Seen text place k w p after → NoBracket k → wildcard_kind k ≡ false → x ≡ refused_at refusal.Form p → Patterned text rest (read_pattern s n) (Err x)
-  pattern_other k w p after x seen b bad is_x =
-      let is = is_atom k p w (lexed_from text after) s rest b (sym seen.follows ∙ e) in
-      subst (λ o. Patterned text rest o (Err x)) (sym (ap (λ s. read_pattern s n) is.0 ∙ wild_wrong k p n bad)) (ap Err is_x)
-
   pub pattern_list : (k : Bracket) (w : List ℕ) (p inside after : ℕ) → Seen text place (kind.Open k) w p inside → PassedAll (read_constructor_pattern p) text inside (Ok after)
       → Patterned text rest (read_pattern s n) (Ok (record { place = p; after = after }))
   pattern_list k w p inside after seen h =

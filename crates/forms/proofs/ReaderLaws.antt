@@ -1,5 +1,5 @@
 -- What each reader tells, by what the readers that it calls tell.
-use Rattle.std.proofs.Common.{◌≡◌, ℕ, zero, suc, ◌+◌, ◌-◌, ◌<◌, ◌≤◌, min, Bool, true, false, cond, ltb, List, [], ◌∷◌, length, set, IfOk, Some, None, Ok, Err, Option, Result, sym, refl, ap, ◌∙◌, subst, arith}
+use Rattle.std.proofs.Common.{◌≡◌, ℕ, zero, suc, ◌+◌, ◌-◌, ◌<◌, min, Bool, true, false, cond, ltb, List, [], ◌∷◌, length, set, Some, None, Ok, Err, Option, Result, sym, refl, ap, ◌∙◌, subst, arith}
 use Rattle.std.proofs.lemmas.List.{append-nil}
 use Rattle.text.specs.Grammar.{NoBracket}
 use Rattle.text.specs.Scans.{refused_at}
@@ -16,10 +16,10 @@ use Rattle.layout.specs.Encoding.{node, pattern_place}
 use Rattle.forms.specs.Drafts.{encode}
 use Rattle.grammar.specs.Forms.{is_key, Two, two, not_two, two_of, Form, let_form_rule, case_form_rule, dup_form_rule, form_named}
 use Rattle.forms.specs.Kinds.{form_kind}
-use Rattle.forms.specs.Looks.{Seen, NoList, NotClosing, Closes, Named, Behind}
+use Rattle.forms.specs.Looks.{Seen, NotClosing, Closes, Named, Behind}
 use Rattle.forms.specs.Parts.{under, encode_binding, encode_branch, OnPart, OnList, OnEach, read_row, reading_at}
 use Rattle.forms.specs.Patterns.{Patterned}
-use Rattle.forms.specs.Progress.{Goes, Told}
+use Rattle.forms.specs.Progress.{Told}
 use Rattle.grammar.specs.Reading.{Tally, Outcome, refused, made, and_then, count_node, Binding, Branch, expr_atom, atom_expr, name_read, read_part, read_parts, read_pattern, read_bindings, read_binding_list, read_branches, read_expr, read_form, binding_of, read_binding, branch_of, read_branch}
 use Rattle.forms.specs.Rows.{closed_by, read_each, encode_each, Along}
 use Rattle.grammar.specs.Sexps.{Sexp, atom, list, Sexps, nil, cons, Atoms, AllAtoms}
@@ -36,7 +36,7 @@ use Rattle.forms.specs.declared.patterns.PatternAt.{PatternAt}
 use Rattle.forms.specs.declared.spot.Spot.{Spot}
 use Rattle.forms.proofs.AtomLaws.{one_node, granted, denied}
 use Rattle.forms.proofs.FormLaws.{View, is_if, is_begin, is_let, is_case, is_dup, is_apply, is_wrong, kind_capped, view, count_two, other_two}
-use Rattle.forms.proofs.LookLaws.{is_atom, is_list, not_list}
+use Rattle.forms.proofs.LookLaws.{is_atom, is_list}
 use Rattle.forms.proofs.PartLaws.{Alike, both_refused, both_made, alike_count, told_alike, both, told_then, told_under, if_alike, begin_alike, apply_alike, let_alike, case_alike}
 use Rattle.forms.proofs.RowLaws.{left_none, left_some, along_start, along_end, along_part, along_next, along_refused}
 use Rattle.forms.proofs.SurveyLaws.{survey_list}
@@ -44,14 +44,6 @@ use Rattle.forms.proofs.ToldLaws.{told_stop, told_refused, told_map, told_spot}
 
 clash : ◌≡◌ {A = ℕ} 0 1 → ⊥
 clash z = omega arith
-
-pub goes_back : (text : List ℕ) (spot at : Spot) (r : Result Spot Refused) → spot.place ≤ at.place → Goes text at r → Goes text spot r
-goes_back text spot at (Ok end) h g = (omega arith, g.1, g.2)
-goes_back text spot at (Err x) h g = tt
-
-pub goes_single : (text : List ℕ) (spot : Spot) (after : ℕ) (r : Result Spot Refused) → IfOk r (λ end. (end.place ≡ after) × (end.used ≤ 4096)) → spot.place < after → after ≤ length text → Goes text spot r
-goes_single text spot after (Ok end) h f w = let here = h.0 in (omega arith, omega arith, h.1)
-goes_single text spot after (Err x) h f w = tt
 
 -- A loop over the parts of a list.
 module _ {A : Type 0} (read : Sexp → Tally → Outcome A) (encoding : ℕ → A → List Node) where
@@ -210,12 +202,6 @@ expr_depth entries zero shape p ss q n h = absurd (clash (omega arith))
 expr_depth entries (suc d) shape p ss q n h = let same : d ≡ suc d - 1 = omega arith in ap (λ j. reading_at entries j p (form_named ss) n) same
 
 module _ (text : List ℕ) (spot : Spot) (ns : List Node) (k : Bracket) (w : List ℕ) (p inside : ℕ) (seen : Seen text spot.place (kind.Open k) w p inside) where
-  pub expr_deep : (entries depth : ℕ) (x : Refused) (now : List Node) → depth ≡ 0 → x ≡ refused_at refusal.Form p → OnPart text spot ns encode (read_expr entries depth) (Err x) now
-  expr_deep entries depth x now d is_x s rest n e a u =
-      let l = is_list k p w (lexed_from text inside) s rest a (sym seen.follows ∙ e) in
-      subst (λ s. Told text rest spot ns (encode spot.used) (read_expr entries depth s n) (Err x) now) (sym l.is)
-      (subst (λ d. Told text rest spot ns (encode spot.used) (read_expr entries d (list l.shape p l.parts l.end) n) (Err x) now) (sym d) (ap Err is_x))
-
   pub expr_list : (entries depth : ℕ) (r : Result Spot Refused) (now : List Node) → 0 < depth
       → OnEach text (record { place = inside; used = spot.used }) ns encode (λ ss. reading_at entries (depth - 1) p (form_named ss)) r now → OnPart text spot ns encode (read_expr entries depth) r now
   expr_list entries depth r now d told s rest n e a u =
@@ -243,13 +229,6 @@ module _ (text : List ℕ) (spot : Spot) (ns : List Node) (k : Bracket) (w : Lis
         let l = is_list k p w (lexed_from text inside) s rest a (sym seen.follows ∙ e) in
         let m = counted l.parts l.shape l.end rest l.inside l.atoms in
         subst (λ o. Told text rest spot ns (encoding spot.used) o (Err x) now) (sym (ap (λ s. read s n) l.is ∙ reads l.shape l.parts l.end n ∙ ap (λ t. of t n) (other_two l.parts (λ z. c (omega arith))) ∙ is_not n)) (ap Err is_x)
-
--- where no list begins
-pub unlisted : {A : Type 0} (text : List ℕ) (spot : Spot) (ns : List Node) (encoding : ℕ → A → List Node) (read : Sexp → Tally → Outcome A) (x : Refused) (now : List Node) → NoList (lexed_from text spot.place) spot.place x
-    → ((k : TokenKind) (p : ℕ) (w : List ℕ) (n : Tally) → read (atom k p w) n ≡ refused (refused_at refusal.Form p)) → OnPart text spot ns encoding read (Err x) now
-unlisted text spot ns encoding read x now unopened is (atom k p w) rest n e a u =
-    subst (λ o. Told text rest spot ns (encoding spot.used) o (Err x) now) (sym (is k p w n)) (ap Err (not_list (lexed_from text spot.place) spot.place (atom k p w) rest x unopened e))
-unlisted text spot ns encoding read x now unopened is (list r p ss q) rest n e a u = absurd (not_list (lexed_from text spot.place) spot.place (list r p ss q) rest x unopened e)
 
 -- Names and patterns use nothing of the limits.
 abbrev Keeps : {A : Type 0} → Tally → Outcome A → Type 0
@@ -526,10 +505,3 @@ module _ (text : List ℕ) (spot : Spot) (ns : List Node) (entries p m : ℕ) (r
         (told_refused (λ n. n.nodes) text rest rest begin spot ns ns now now (λ x. []) (under form.Let p (both (encode_each encode_binding) (encode_each encode)) spot.used) (and_then (read_each (read_binding entries read) parts (one_node n)) (λ xs n. and_then (read_each read (cons e nil) n) (λ ys n. made (xs, ys) n))) y
         (told_stop (λ n. n.nodes) text (closed_by (cons e nil) shape q rest) rest begin ns now (encode_each encode_binding) (λ xs n. and_then (read_each read (cons e nil) n) (λ ys n. made (xs, ys) n)) (λ x. []) (read_each (read_binding entries read) parts (one_node n)) y
         (first parts shape' q' (closed_by (cons e nil) shape q rest) (one_node n) l atoms v)))))
-
-  pub let_unlisted : (y : Refused) (now : List Node) → NoList (lexed_from text spot.place) spot.place y
-      → (bs e : Sexp) → OnList text spot ns encode (cons bs (cons e nil)) (read_form entries read p (let_form_rule bs e)) (Err y) now
-  let_unlisted y now unopened (atom t o b) e shape q rest n E a u =
-      claim_granted text spot ns entries p (encode spot.used) rest n (λ n. and_then (read_binding_list entries read (atom t o b) n) (then_let e)) m (Err y) now u c (λ v w.
-      ap Err (not_list (lexed_from text spot.place) spot.place (atom t o b) (closed_by (cons e nil) shape q rest) y unopened E))
-  let_unlisted y now unopened (list r o ss d) e shape q rest n E a u = absurd (not_list (lexed_from text spot.place) spot.place (list r o ss d) (closed_by (cons e nil) shape q rest) y unopened E)

@@ -1,5 +1,5 @@
 -- A survey of a list answers its head and its number of parts.
-use Rattle.std.proofs.Common.{◌≡◌, ℕ, suc, ◌+◌, ◌-◌, min, false, cond, eqb, refl, ap, ◌∙◌, arith, zero-add, ne_eqb, None}
+use Rattle.std.proofs.Common.{◌≡◌, ℕ, suc, ◌+◌, ◌-◌, min, false, cond, eqb, refl, ap, ◌∙◌, arith, zero-add, ne_eqb}
 use Rattle.text.specs.Grammar.{NoBracket}
 use Rattle.text.specs.Tokens.{Lexeme, lexeme, Lexed, done, fault, also}
 use Rattle.text.specs.declared.bracket.Bracket.{Bracket}
@@ -15,11 +15,6 @@ pub counted_end : (d : ℕ) (l : Lexed) → ((t : Lexeme) (rest : Lexed) → l �
 counted_end d done f = refl
 counted_end d (fault e i) f = refl
 counted_end d (also t rest) f = absurd (f t rest refl)
-
-pub head_end : (l : Lexed) → ((t : Lexeme) (rest : Lexed) → l ≡ also t rest → ⊥) → head_word l ≡ None
-head_end done f = refl
-head_end (fault e i) f = refl
-head_end (also t rest) f = absurd (f t rest refl)
 
 -- a token that is no bracket
 pub counted_atom : (d : ℕ) (k : TokenKind) (p : ℕ) (w : _) (l : Lexed) → NoBracket k → counted d (also (lexeme k p w) l) ≡ here d + counted d l

@@ -1,5 +1,5 @@
 -- How many parts a list has, and the reserved word that it begins with, by its tokens.
-use Rattle.std.specs.Prelude.{◌≡◌, ℕ, suc, ◌+◌, ◌-◌, min, cond, List, ◌∷◌, [], None, Option, ◌==◌, ◌<◌, slice_index}
+use Rattle.std.specs.Prelude.{◌≡◌, ℕ, ◌+◌, ◌-◌, min, cond, List, ◌∷◌, [], Some, None, Option, ◌==◌, slice_index_or}
 use Rattle.text.specs.Tokens.{Lexed, done, fault, also, lexed_from}
 use Rattle.text.specs.declared.keyword.Keyword.{Keyword}
 use Rattle.text.specs.declared.token.TokenKind.TheVariants as kind
@@ -37,9 +37,9 @@ head_word (also t rest) = kind_head t.kind
 abbrev pub surveyed : Lexed → Survey
 surveyed l = record { parts = parts_of l; head = head_word l }
 
--- A table has, for each place where the parts of a list begin, nothing (0) or their number and one more.
-abbrev pub Known : List ℕ → List ℕ → Type 0
-Known text counts = (place : ℕ) → 0 < slice_index counts place → slice_index counts place ≡ suc (parts_of (lexed_from text place))
+-- A table has, for each place where the parts of a list begin, their number or none.
+abbrev pub Known : List ℕ → List (Option ℕ) → Type 0
+Known text counts = (place parts : ℕ) → slice_index_or counts place None ≡ Some parts → parts ≡ parts_of (lexed_from text place)
 
 -- one part more of the newest of the open lists
 abbrev pub with_part : OpenList → OpenList

@@ -2,11 +2,8 @@
 ghost use Rattle.std.specs.Prelude.{◌≡◌};
 ghost use Rattle.forms.specs.Atoms.{leaf_form, claimed};
 
-use layout::NodeForm;
+use layout::{NODES, NodeForm};
 use text::{Keyword, Refusal, Refused, TokenKind};
-
-// The most nodes of a script.
-pub(crate) const NODES: usize = 4096;
 
 // A form, or a token that cannot stand at a place.
 pub fn wrong(place: usize) -> Refused

@@ -1,16 +1,14 @@
 // One pass over a text that counts the parts of every list.
-ghost use Rattle.std.specs.Prelude.{◌≡◌, ◌+◌, min, slice_set};
+ghost use Rattle.std.specs.Prelude.{◌≡◌, ◌+◌, min, Some, slice_set};
 ghost use Rattle.stack.specs.Items.{tops};
 ghost use Rattle.forms.specs.Surveys.{Known, added};
 
 use super::sight::{Look, look_at};
+use layout::DEPTH;
 use stack::{Full, Stack};
 
-// The most brackets that are open in a text.
-const OPEN: usize = 64;
-
 // A list that is open: the place where its parts begin, and how many there were so far, where seven stands for more.
-#[derive(Clone, Copy)]
+#[derive(Clone, Copy, PartialEq, Eq)]
 pub struct OpenList {
     pub inside: usize,
     pub parts: u8,
@@ -29,23 +27,23 @@ fn add_part(opened: &mut Stack<'_, OpenList>)
 }
 
 // The number of parts of a list that is closed.
-fn note(counts: &mut [u8; 65536], list: OpenList)
-    ensures { counts.new ≡ slice_set counts.old list.inside (min 7 list.parts + 1) }
+fn note(counts: &mut [Option<u8>; 65536], list: OpenList)
+    ensures { counts.new ≡ slice_set counts.old list.inside (Some (min 7 list.parts)) }
 {
     if list.inside < counts.len() {
-        counts[list.inside] = list.parts.min(7) + 1;
+        counts[list.inside] = Some(list.parts.min(7));
     }
 }
 
 // Whatever the table tells is right: the pass writes the number of parts of each list behind the bracket that opens it.
-pub(crate) fn count_lists(text: &[u8], counts: &mut [u8; 65536])
+pub(crate) fn count_lists(text: &[u8], counts: &mut [Option<u8>; 65536])
     requires { Known text.now counts.old }
     ensures { Known text.now counts.new }
 {
     let mut room = [OpenList {
         inside: 0,
         parts: 0,
-    }; OPEN];
+    }; DEPTH];
     let mut opened = Stack::new(&mut room);
     let mut at = 0;
     'tokens: loop {

@@ -1,4 +1,6 @@
 // Expressions, their branches and bindings, read into the node list.
+// The source, a spot and the node list stay parameters, and no reader holds them: each loan is its own, and a contract speaks of plain values.
+// The loops over expressions, bindings and branches stay three: a part's reader as a parameter is a call through a cycle, which gets no proof.
 ghost use Rattle.std.specs.Prelude.{◌≡◌, ℕ, ◌+◌, ◌≤◌, List, length, IfOk};
 ghost use Rattle.forms.specs.Drafts.{encode};
 ghost use Rattle.grammar.specs.Forms.{form_named, let_form_rule, case_form_rule, dup_form_rule, two};
@@ -118,7 +120,15 @@ fn row(
     ensures told { OnEach source.now.text.now spot nodes.old (under form place (encode_each encode)) (read_row (length nodes.old) place (read_expr (length nodes.old) depth)) result nodes.new }
 {
     let first = claim(spot.used, nodes.len(), place)?;
-    let end = expressions(source, Spot { used: first, ..spot }, nodes, depth)?;
+    let end = expressions(
+        source,
+        Spot {
+            used: first,
+            ..spot
+        },
+        nodes,
+        depth,
+    )?;
     nodes[spot.used] = Node {
         form,
         place: place as u16,
@@ -252,7 +262,15 @@ fn case_form(
     ensures told { (e b : Sexp) (bs : Sexps) → OnList source.now.text.now spot nodes.old encode (cons e (cons b bs)) (reading_at (length nodes.old) depth place (case_form_rule e b bs)) result nodes.new }
 {
     let first = claim(spot.used, nodes.len(), place)?;
-    let middle = expression(source, Spot { used: first, ..spot }, nodes, depth)?;
+    let middle = expression(
+        source,
+        Spot {
+            used: first,
+            ..spot
+        },
+        nodes,
+        depth,
+    )?;
     let end = branches(source, middle, nodes, depth)?;
     nodes[spot.used] = Node {
         form: NodeForm::Case,

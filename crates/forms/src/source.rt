@@ -7,8 +7,8 @@ mod making;
 #[derive(Drop)]
 pub struct Source<'t> {
     pub text: &'t [u8],
-    // for each place where the parts of a list begin: nothing (0), or how many parts it has and one more
-    counts: [u8; 65536],
+    // for each place where the parts of a list begin how many it has, where that is known; seven stands for more
+    counts: [Option<u8>; 65536],
     ghost short: { length text.now ≤ 65535 },
     ghost right: { Known text.now counts },
 }

@@ -15,7 +15,7 @@ impl<'t> Source<'t> {
         ensures { Makes text.now result }
     {
         scan(text)?;
-        let mut counts = [0; 65536];
+        let mut counts = [None; 65536];
         count_lists(text, &mut counts);
         Ok(Source { text, counts })
     }
@@ -24,13 +24,10 @@ impl<'t> Source<'t> {
     fn parts_at(&self, place: usize) -> usize
         ensures { result ≡ parts_of (lexed_from self.now.text.now place) }
     {
-        if place < self.counts.len() {
-            let count = self.counts[place] as usize;
-            if count > 0 {
-                return count - 1;
-            }
+        match self.counts.get(place).copied().unwrap_or(None) {
+            Some(parts) => parts as usize,
+            None => count_parts(self.text, place),
         }
-        count_parts(self.text, place)
     }
 
     // What decides the form of the list whose parts begin at a place.

@@ -1,4 +1,4 @@
-use Rattle.std.proofs.Common.{◌≡◌, ◌≤◌, length, Some, None, Ok, Err, sym, refl, ap, ◌∙◌, subst, arith}
+use Rattle.std.proofs.Common.{◌≡◌, length, Some, None, Ok, Err, sym, refl, ap, ◌∙◌, subst, arith}
 use Rattle.std.proofs.lemmas.Result.{err_from_is_err_and}
 use Rattle.forms.specs.Drafts.{encode}
 use Rattle.forms.specs.Kinds.{form_kind}
@@ -6,8 +6,7 @@ use Rattle.forms.specs.Parts.{encode_binding, encode_branch, OnPart, OnEach}
 use Rattle.grammar.specs.Reading.{read_expr, read_binding, binding_of, read_branch, branch_of}
 use Rattle.forms.specs.Rows.{read_each, encode_each}
 use Rattle.forms.specs.declared.form.FormKind.TheVariants as formkind
-use Rattle.forms.proofs.LookLaws.{name_close, name_end}
-use Rattle.forms.proofs.ReaderLaws.{goes_back, goes_single, half_start, half_next, half_end, half_refused, row_made, row_refused, by_view, on_if, on_begin, on_let, on_case, on_dup, on_apply, on_wrong, expr_atom_law, expr_deep, expr_list, pair_read, pair_wrong, unlisted, bound_made, bound_refused, bound_unnamed, arm_made, arm_refused, arm_unmatched, case_made, case_refused, case_stopped, let_made, let_refused, let_stopped, let_unlisted}
+use Rattle.forms.proofs.ReaderLaws.{half_start, half_next, half_end, half_refused, row_made, row_refused, by_view, on_if, on_begin, on_let, on_case, on_dup, on_apply, on_wrong, expr_atom_law, expr_list, pair_read, pair_wrong, bound_made, bound_refused, bound_unnamed, arm_made, arm_refused, arm_unmatched, case_made, case_refused, case_stopped, let_made, let_refused, let_stopped}
 use Rattle.forms.proofs.expressions.+expression.Goals as goal
 
 pub row-returns-in_err-end-clause-told : goal.row-returns-in_err-end-clause-told
@@ -23,13 +22,9 @@ pub expressions-parts-init : goal.expressions-parts-init
 expressions-parts-init t c =
     (omega arith, c.requires, half_start (read_expr (length c.args.nodes.now) c.args.depth) encode c.args.source.now.text.now c.args.spot c.args.nodes.now)
 
-pub expressions-returns-in-Some : goal.expressions-returns-in-Some
-expressions-returns-in-Some t c =
-    let closes = c.in-Some.ensures in
-    let inv = c.parts.invariant in
-    let from = inv.0 in
-    let forward = closes.1.1.1.forward in
-    record { goes = (omega arith, closes.1.1.1.within, inv.1); told = half_end (read_expr (length c.args.nodes.now) c.args.depth) encode c.args.source.now.text.now c.args.spot c.args.nodes.now c.parts.at c.parts.nodes inv.2 c.in-Some.after closes }
+pub expressions-returns-in-Some-clause-told : goal.expressions-returns-in-Some-clause-told
+expressions-returns-in-Some-clause-told t c =
+    half_end (read_expr (length c.args.nodes.now) c.args.depth) encode c.args.source.now.text.now c.args.spot c.args.nodes.now c.parts.at c.parts.nodes c.parts.invariant.2 c.in-Some.after c.in-Some.ensures
 
 pub expressions-parts-preserved : goal.expressions-parts-preserved
 expressions-parts-preserved t c =
@@ -51,19 +46,15 @@ expressions-returns-in_err-at-clause-told t c =
     let long : length c.parts.nodes ≡ length c.args.nodes.now = c.parts.auto.nodes in
     let e = err_from_is_err_and c.from_residual.result c.from_residual.ensures.1 in
     rw (e.1, e.2) (half_refused (read_expr (length c.args.nodes.now) c.args.depth) encode c.args.source.now.text.now c.args.spot c.args.nodes.now c.parts.at c.parts.nodes inv.2 c.in_default.ensures c.in_err-at.field-0.0 c.expression.new.nodes
-        (subst (λ k. OnPart c.args.source.now.text.now c.parts.at c.parts.nodes encode (read_expr k c.args.depth) (Err c.in_err-at.field-0.0) c.expression.new.nodes) long part.told))
+    (subst (λ k. OnPart c.args.source.now.text.now c.parts.at c.parts.nodes encode (read_expr k c.args.depth) (Err c.in_err-at.field-0.0) c.expression.new.nodes) long part.told))
 
 pub bindings-parts-init : goal.bindings-parts-init
 bindings-parts-init t c =
     (omega arith, c.requires, half_start (read_binding (length c.args.nodes.now) (read_expr (length c.args.nodes.now) c.args.depth)) encode_binding c.args.source.now.text.now c.args.spot c.args.nodes.now)
 
-pub bindings-returns-in-Some : goal.bindings-returns-in-Some
-bindings-returns-in-Some t c =
-    let closes = c.in-Some.ensures in
-    let inv = c.parts.invariant in
-    let from = inv.0 in
-    let forward = closes.1.1.1.forward in
-    record { goes = (omega arith, closes.1.1.1.within, inv.1); told = half_end (read_binding (length c.args.nodes.now) (read_expr (length c.args.nodes.now) c.args.depth)) encode_binding c.args.source.now.text.now c.args.spot c.args.nodes.now c.parts.at c.parts.nodes inv.2 c.in-Some.after closes }
+pub bindings-returns-in-Some-clause-told : goal.bindings-returns-in-Some-clause-told
+bindings-returns-in-Some-clause-told t c =
+    half_end (read_binding (length c.args.nodes.now) (read_expr (length c.args.nodes.now) c.args.depth)) encode_binding c.args.source.now.text.now c.args.spot c.args.nodes.now c.parts.at c.parts.nodes c.parts.invariant.2 c.in-Some.after c.in-Some.ensures
 
 pub bindings-parts-preserved : goal.bindings-parts-preserved
 bindings-parts-preserved t c =
@@ -85,19 +76,15 @@ bindings-returns-in_err-at-clause-told t c =
     let long : length c.parts.nodes ≡ length c.args.nodes.now = c.parts.auto.nodes in
     let e = err_from_is_err_and c.from_residual.result c.from_residual.ensures.1 in
     rw (e.1, e.2) (half_refused (read_binding (length c.args.nodes.now) (read_expr (length c.args.nodes.now) c.args.depth)) encode_binding c.args.source.now.text.now c.args.spot c.args.nodes.now c.parts.at c.parts.nodes inv.2 c.in_default.ensures c.in_err-at.field-0.0 c.binding.new.nodes
-        (subst (λ k. OnPart c.args.source.now.text.now c.parts.at c.parts.nodes encode_binding (read_binding k (read_expr k c.args.depth)) (Err c.in_err-at.field-0.0) c.binding.new.nodes) long part.told))
+    (subst (λ k. OnPart c.args.source.now.text.now c.parts.at c.parts.nodes encode_binding (read_binding k (read_expr k c.args.depth)) (Err c.in_err-at.field-0.0) c.binding.new.nodes) long part.told))
 
 pub branches-parts-init : goal.branches-parts-init
 branches-parts-init t c =
     (omega arith, c.requires, half_start (read_branch (length c.args.nodes.now) (read_expr (length c.args.nodes.now) c.args.depth)) encode_branch c.args.source.now.text.now c.args.spot c.args.nodes.now)
 
-pub branches-returns-in-Some : goal.branches-returns-in-Some
-branches-returns-in-Some t c =
-    let closes = c.in-Some.ensures in
-    let inv = c.parts.invariant in
-    let from = inv.0 in
-    let forward = closes.1.1.1.forward in
-    record { goes = (omega arith, closes.1.1.1.within, inv.1); told = half_end (read_branch (length c.args.nodes.now) (read_expr (length c.args.nodes.now) c.args.depth)) encode_branch c.args.source.now.text.now c.args.spot c.args.nodes.now c.parts.at c.parts.nodes inv.2 c.in-Some.after closes }
+pub branches-returns-in-Some-clause-told : goal.branches-returns-in-Some-clause-told
+branches-returns-in-Some-clause-told t c =
+    half_end (read_branch (length c.args.nodes.now) (read_expr (length c.args.nodes.now) c.args.depth)) encode_branch c.args.source.now.text.now c.args.spot c.args.nodes.now c.parts.at c.parts.nodes c.parts.invariant.2 c.in-Some.after c.in-Some.ensures
 
 pub branches-parts-preserved : goal.branches-parts-preserved
 branches-parts-preserved t c =
@@ -119,86 +106,39 @@ branches-returns-in_err-at-clause-told t c =
     let long : length c.parts.nodes ≡ length c.args.nodes.now = c.parts.auto.nodes in
     let e = err_from_is_err_and c.from_residual.result c.from_residual.ensures.1 in
     rw (e.1, e.2) (half_refused (read_branch (length c.args.nodes.now) (read_expr (length c.args.nodes.now) c.args.depth)) encode_branch c.args.source.now.text.now c.args.spot c.args.nodes.now c.parts.at c.parts.nodes inv.2 c.in_default.ensures c.in_err-at.field-0.0 c.branch-source.new.nodes
-        (subst (λ k. OnPart c.args.source.now.text.now c.parts.at c.parts.nodes encode_branch (read_branch k (read_expr k c.args.depth)) (Err c.in_err-at.field-0.0) c.branch-source.new.nodes) long part.told))
+    (subst (λ k. OnPart c.args.source.now.text.now c.parts.at c.parts.nodes encode_branch (read_branch k (read_expr k c.args.depth)) (Err c.in_err-at.field-0.0) c.branch-source.new.nodes) long part.told))
 
-pub expression-single-requires : goal.expression-single-requires
-expression-single-requires t c =
+pub expression-returns-in-Atom-clause-told : goal.expression-returns-in-Atom-clause-told
+expression-returns-in-Atom-clause-told t c =
     let sees = c.in-Atom.ensures in
-    let size = sees.1.size in
-    let within = sees.1.within in
-    let short = c.args.source.now.short in
-    (omega arith, omega arith)
+    λ s rest n e a u. expr_atom_law c.args.source.now.text.now c.args.spot c.args.nodes.now (length c.args.nodes.now) c.args.depth s rest n e c.in-Atom.kind sees.0 c.in-Atom.at c.in-Atom.after c.single.result c.single.new.nodes sees.1 sees.2
+    (c.single.ensures.told c.args.source.now.text.now sees.0 n sees.1.spelt sees.1.size u)
 
-pub expression-returns-in-Atom : goal.expression-returns-in-Atom
-expression-returns-in-Atom t c =
-    let sees = c.in-Atom.ensures in
-    record {
-      goes = goes_single c.args.source.now.text.now c.args.spot c.in-Atom.after c.single.result c.single.ensures.few sees.1.forward sees.1.within;
-      told = λ s rest n e a u. expr_atom_law c.args.source.now.text.now c.args.spot c.args.nodes.now (length c.args.nodes.now) c.args.depth s rest n e c.in-Atom.kind sees.0 c.in-Atom.at c.in-Atom.after c.single.result c.single.new.nodes sees.1 sees.2
-          (c.single.ensures.told c.args.source.now.text.now sees.0 n sees.1.spelt sees.1.size u);
-    }
-
-pub expression-returns-then-depth-eq0 : goal.expression-returns-then-depth-eq0
-expression-returns-then-depth-eq0 t c =
+pub expression-returns-else-depth-eq0-clause-told : goal.expression-returns-else-depth-eq0-clause-told
+expression-returns-else-depth-eq0-clause-told t c =
     let sees = c.in-Open.ensures in
-    record { goes = tt; told = expr_deep c.args.source.now.text.now c.args.spot c.args.nodes.now sees.0 sees.1.0 c.in-Open.at c.in-Open.inside sees.1.1 (length c.args.nodes.now) c.args.depth c.wrong.result c.args.nodes.now c.if-depth-eq0.true c.wrong.ensures }
-
-pub expression-returns-else-depth-eq0 : goal.expression-returns-else-depth-eq0
-expression-returns-else-depth-eq0 t c =
-    let sees = c.in-Open.ensures in
-    let forward = sees.1.1.forward in
     let deep = c.if-depth-eq0.false in
-    record {
-      goes = goes_back c.args.source.now.text.now c.args.spot (record { place = c.in-Open.inside; used = c.args.spot.used }) c.list.result (omega arith) c.list.ensures.goes;
-      told = expr_list c.args.source.now.text.now c.args.spot c.args.nodes.now sees.0 sees.1.0 c.in-Open.at c.in-Open.inside sees.1.1 (length c.args.nodes.now) c.args.depth c.list.result c.list.new.nodes (omega arith) c.list.ensures.told;
-    }
+    expr_list c.args.source.now.text.now c.args.spot c.args.nodes.now sees.0 sees.1.0 c.in-Open.at c.in-Open.inside sees.1.1 (length c.args.nodes.now) c.args.depth c.list.result c.list.new.nodes (omega arith) c.list.ensures.told
 
-pub expression-returns-in-Close : goal.expression-returns-in-Close
-expression-returns-in-Close t c =
-    let sees = c.in-Close.ensures in
-    record { goes = tt; told = λ s rest n e a u. name_close c.args.source.now.text.now c.args.spot.place s rest n e a sees.0 sees.1.0 _ _ sees.1.1 }
-
-pub expression-returns-in-End : goal.expression-returns-in-End
-expression-returns-in-End t c =
-    record { goes = tt; told = λ s rest n e a u. name_end c.args.source.now.text.now c.args.spot.place s rest n e a c.in-End.ensures }
-
-pub binding-returns-in_err-opened-clause-told : goal.binding-returns-in_err-opened-clause-told
-binding-returns-in_err-opened-clause-told t c =
-    let e = err_from_is_err_and c.from_residual.result c.from_residual.ensures.1 in
-    rw (e.1, e.2) (unlisted c.args.source.now.text.now c.args.spot c.args.nodes.now encode_binding (read_binding (length c.args.nodes.now) (read_expr (length c.args.nodes.now) c.args.depth)) c.in_err-opened.field-0.0 c.args.nodes.now c.in_err-opened.ensures (λ k p w n. refl))
-
-pub binding-returns-then-survey-ne2 : goal.binding-returns-then-survey-ne2
-binding-returns-then-survey-ne2 t c =
+pub binding-returns-then-survey-ne2-clause-told : goal.binding-returns-then-survey-ne2-clause-told
+binding-returns-then-survey-ne2-clause-told t c =
     let sees = c.in_ok-opened.ensures in
-    record { goes = tt; told = pair_wrong c.args.source.now.text.now c.args.spot c.args.nodes.now sees.0 sees.1.0 c.in_ok-opened.opened.place c.in_ok-opened.opened.inside sees.1.1 encode_binding (binding_of (length c.args.nodes.now) (read_expr (length c.args.nodes.now) c.args.depth) c.in_ok-opened.opened.place) (read_binding (length c.args.nodes.now) (read_expr (length c.args.nodes.now) c.args.depth)) (λ shape ss q n. refl) c.survey.result.parts (ap (λ s. s.parts) c.survey.ensures) c.wrong.result c.args.nodes.now c.if-survey-ne2.true (λ n. refl) c.wrong.ensures }
+    pair_wrong c.args.source.now.text.now c.args.spot c.args.nodes.now sees.0 sees.1.0 c.in_ok-opened.opened.place c.in_ok-opened.opened.inside sees.1.1 encode_binding (binding_of (length c.args.nodes.now) (read_expr (length c.args.nodes.now) c.args.depth) c.in_ok-opened.opened.place) (read_binding (length c.args.nodes.now) (read_expr (length c.args.nodes.now) c.args.depth)) (λ shape ss q n. refl) c.survey.result.parts (ap (λ s. s.parts) c.survey.ensures) c.wrong.result c.args.nodes.now c.if-survey-ne2.true (λ n. refl) c.wrong.ensures
 
-pub binding-returns : goal.binding-returns
-binding-returns t c =
+pub binding-returns-clause-told : goal.binding-returns-clause-told
+binding-returns-clause-told t c =
     let sees = c.in_ok-opened.ensures in
-    let forward = sees.1.1.forward in
-    record {
-      goes = goes_back c.args.source.now.text.now c.args.spot (record { place = c.in_ok-opened.opened.inside; used = c.args.spot.used }) c.bound.result (omega arith) c.bound.ensures.goes;
-      told = pair_read c.args.source.now.text.now c.args.spot c.args.nodes.now sees.0 sees.1.0 c.in_ok-opened.opened.place c.in_ok-opened.opened.inside sees.1.1 encode_binding (binding_of (length c.args.nodes.now) (read_expr (length c.args.nodes.now) c.args.depth) c.in_ok-opened.opened.place) (read_binding (length c.args.nodes.now) (read_expr (length c.args.nodes.now) c.args.depth)) (λ shape ss q n. refl) c.survey.result.parts (ap (λ s. s.parts) c.survey.ensures) c.bound.result c.bound.new.nodes c.if-survey-ne2.false c.bound.ensures.told;
-    }
+    pair_read c.args.source.now.text.now c.args.spot c.args.nodes.now sees.0 sees.1.0 c.in_ok-opened.opened.place c.in_ok-opened.opened.inside sees.1.1 encode_binding (binding_of (length c.args.nodes.now) (read_expr (length c.args.nodes.now) c.args.depth) c.in_ok-opened.opened.place) (read_binding (length c.args.nodes.now) (read_expr (length c.args.nodes.now) c.args.depth)) (λ shape ss q n. refl) c.survey.result.parts (ap (λ s. s.parts) c.survey.ensures) c.bound.result c.bound.new.nodes c.if-survey-ne2.false c.bound.ensures.told
 
-pub branch-returns-in_err-opened-clause-told : goal.branch-returns-in_err-opened-clause-told
-branch-returns-in_err-opened-clause-told t c =
-    let e = err_from_is_err_and c.from_residual.result c.from_residual.ensures.1 in
-    rw (e.1, e.2) (unlisted c.args.source.now.text.now c.args.spot c.args.nodes.now encode_branch (read_branch (length c.args.nodes.now) (read_expr (length c.args.nodes.now) c.args.depth)) c.in_err-opened.field-0.0 c.args.nodes.now c.in_err-opened.ensures (λ k p w n. refl))
-
-pub branch-returns-then-survey-ne2 : goal.branch-returns-then-survey-ne2
-branch-returns-then-survey-ne2 t c =
+pub branch-returns-then-survey-ne2-clause-told : goal.branch-returns-then-survey-ne2-clause-told
+branch-returns-then-survey-ne2-clause-told t c =
     let sees = c.in_ok-opened.ensures in
-    record { goes = tt; told = pair_wrong c.args.source.now.text.now c.args.spot c.args.nodes.now sees.0 sees.1.0 c.in_ok-opened.opened.place c.in_ok-opened.opened.inside sees.1.1 encode_branch (branch_of (length c.args.nodes.now) (read_expr (length c.args.nodes.now) c.args.depth) c.in_ok-opened.opened.place) (read_branch (length c.args.nodes.now) (read_expr (length c.args.nodes.now) c.args.depth)) (λ shape ss q n. refl) c.survey.result.parts (ap (λ s. s.parts) c.survey.ensures) c.wrong.result c.args.nodes.now c.if-survey-ne2.true (λ n. refl) c.wrong.ensures }
+    pair_wrong c.args.source.now.text.now c.args.spot c.args.nodes.now sees.0 sees.1.0 c.in_ok-opened.opened.place c.in_ok-opened.opened.inside sees.1.1 encode_branch (branch_of (length c.args.nodes.now) (read_expr (length c.args.nodes.now) c.args.depth) c.in_ok-opened.opened.place) (read_branch (length c.args.nodes.now) (read_expr (length c.args.nodes.now) c.args.depth)) (λ shape ss q n. refl) c.survey.result.parts (ap (λ s. s.parts) c.survey.ensures) c.wrong.result c.args.nodes.now c.if-survey-ne2.true (λ n. refl) c.wrong.ensures
 
-pub branch-returns : goal.branch-returns
-branch-returns t c =
+pub branch-returns-clause-told : goal.branch-returns-clause-told
+branch-returns-clause-told t c =
     let sees = c.in_ok-opened.ensures in
-    let forward = sees.1.1.forward in
-    record {
-      goes = goes_back c.args.source.now.text.now c.args.spot (record { place = c.in_ok-opened.opened.inside; used = c.args.spot.used }) c.arm.result (omega arith) c.arm.ensures.goes;
-      told = pair_read c.args.source.now.text.now c.args.spot c.args.nodes.now sees.0 sees.1.0 c.in_ok-opened.opened.place c.in_ok-opened.opened.inside sees.1.1 encode_branch (branch_of (length c.args.nodes.now) (read_expr (length c.args.nodes.now) c.args.depth) c.in_ok-opened.opened.place) (read_branch (length c.args.nodes.now) (read_expr (length c.args.nodes.now) c.args.depth)) (λ shape ss q n. refl) c.survey.result.parts (ap (λ s. s.parts) c.survey.ensures) c.arm.result c.arm.new.nodes c.if-survey-ne2.false c.arm.ensures.told;
-    }
+    pair_read c.args.source.now.text.now c.args.spot c.args.nodes.now sees.0 sees.1.0 c.in_ok-opened.opened.place c.in_ok-opened.opened.inside sees.1.1 encode_branch (branch_of (length c.args.nodes.now) (read_expr (length c.args.nodes.now) c.args.depth) c.in_ok-opened.opened.place) (read_branch (length c.args.nodes.now) (read_expr (length c.args.nodes.now) c.args.depth)) (λ shape ss q n. refl) c.survey.result.parts (ap (λ s. s.parts) c.survey.ensures) c.arm.result c.arm.new.nodes c.if-survey-ne2.false c.arm.ensures.told
 
 pub bound-returns-in_err-name-clause-told : goal.bound-returns-in_err-name-clause-told
 bound-returns-in_err-name-clause-told t c =
@@ -241,18 +181,13 @@ case_form-returns-in_err-end-clause-told t c =
     let long : length c.expression.new.nodes ≡ length c.args.nodes.now = c.expression.auto.nodes in
     let e = err_from_is_err_and c.from_residual-in_err-end.result c.from_residual-in_err-end.ensures.1 in
     rw (e.1, e.2) (case_refused c.args.source.now.text.now c.args.spot c.args.nodes.now (length c.args.nodes.now) c.args.place c.in_ok-first.first (read_expr (length c.args.nodes.now) c.args.depth) (sym c.in_ok-first.ensures) c.in_ok-middle.middle c.in_err-end.field-0.0 c.expression.new.nodes c.branches.new.nodes c.in_ok-middle.ensures.told
-        (subst (λ k. OnEach c.args.source.now.text.now c.in_ok-middle.middle c.expression.new.nodes (encode_each encode_branch) (read_each (read_branch k (read_expr k c.args.depth))) (Err c.in_err-end.field-0.0) c.branches.new.nodes) long c.in_err-end.ensures.told))
+    (subst (λ k. OnEach c.args.source.now.text.now c.in_ok-middle.middle c.expression.new.nodes (encode_each encode_branch) (read_each (read_branch k (read_expr k c.args.depth))) (Err c.in_err-end.field-0.0) c.branches.new.nodes) long c.in_err-end.ensures.told))
 
 pub case_form-returns-clause-told : goal.case_form-returns-clause-told
 case_form-returns-clause-told t c =
     let long : length c.expression.new.nodes ≡ length c.args.nodes.now = c.expression.auto.nodes in
     case_made c.args.source.now.text.now c.args.spot c.args.nodes.now (length c.args.nodes.now) c.args.place c.in_ok-first.first (read_expr (length c.args.nodes.now) c.args.depth) (sym c.in_ok-first.ensures) c.in_ok-middle.middle c.in_ok-end.end c.expression.new.nodes c.branches.new.nodes c.in_ok-middle.ensures.told
     (subst (λ k. OnEach c.args.source.now.text.now c.in_ok-middle.middle c.expression.new.nodes (encode_each encode_branch) (read_each (read_branch k (read_expr k c.args.depth))) (Ok c.in_ok-end.end) c.branches.new.nodes) long c.in_ok-end.ensures.told)
-
-pub let_form-returns-in_err-opened-clause-told : goal.let_form-returns-in_err-opened-clause-told
-let_form-returns-in_err-opened-clause-told t c =
-    let e = err_from_is_err_and c.from_residual-in_err-opened.result c.from_residual-in_err-opened.ensures.1 in
-    rw (e.1, e.2) (let_unlisted c.args.source.now.text.now c.args.spot c.args.nodes.now (length c.args.nodes.now) c.args.place c.in_ok-first.first (read_expr (length c.args.nodes.now) c.args.depth) (sym c.in_ok-first.ensures) c.in_err-opened.field-0.0 c.args.nodes.now c.in_err-opened.ensures)
 
 pub let_form-returns-in_err-middle-clause-told : goal.let_form-returns-in_err-middle-clause-told
 let_form-returns-in_err-middle-clause-told t c =
@@ -266,68 +201,46 @@ let_form-returns-in_err-end-clause-told t c =
     let long : length c.bindings.new.nodes ≡ length c.args.nodes.now = c.bindings.auto.nodes in
     let e = err_from_is_err_and c.from_residual-in_err-end.result c.from_residual-in_err-end.ensures.1 in
     rw (e.1, e.2) (let_refused c.args.source.now.text.now c.args.spot c.args.nodes.now (length c.args.nodes.now) c.args.place c.in_ok-first.first (read_expr (length c.args.nodes.now) c.args.depth) (sym c.in_ok-first.ensures) sees.0 sees.1.0 _ c.in_ok-opened.opened.inside sees.1.1 c.in_ok-middle.middle c.in_err-end.field-0.0 c.bindings.new.nodes c.expressions.new.nodes c.in_ok-middle.ensures.told
-        (subst (λ k. OnEach c.args.source.now.text.now c.in_ok-middle.middle c.bindings.new.nodes (encode_each encode) (read_each (read_expr k c.args.depth)) (Err c.in_err-end.field-0.0) c.expressions.new.nodes) long c.in_err-end.ensures.told))
+    (subst (λ k. OnEach c.args.source.now.text.now c.in_ok-middle.middle c.bindings.new.nodes (encode_each encode) (read_each (read_expr k c.args.depth)) (Err c.in_err-end.field-0.0) c.expressions.new.nodes) long c.in_err-end.ensures.told))
 
-pub let_form-returns : goal.let_form-returns
-let_form-returns t c =
+pub let_form-returns-clause-told : goal.let_form-returns-clause-told
+let_form-returns-clause-told t c =
     let sees = c.in_ok-opened.ensures in
-    let first = c.in_ok-middle.ensures in
-    let rest = c.in_ok-end.ensures in
-    let forward = first.goes.0 in
-    let more = rest.goes.0 in
-    let before = sees.1.1.forward in
     let long : length c.bindings.new.nodes ≡ length c.args.nodes.now = c.bindings.auto.nodes in
-    record {
-      goes = (omega arith, rest.goes.1, rest.goes.2);
-      told = let_made c.args.source.now.text.now c.args.spot c.args.nodes.now (length c.args.nodes.now) c.args.place c.in_ok-first.first (read_expr (length c.args.nodes.now) c.args.depth) (sym c.in_ok-first.ensures) sees.0 sees.1.0 _ c.in_ok-opened.opened.inside sees.1.1 c.in_ok-middle.middle c.in_ok-end.end c.bindings.new.nodes c.expressions.new.nodes first.told
-          (subst (λ k. OnEach c.args.source.now.text.now c.in_ok-middle.middle c.bindings.new.nodes (encode_each encode) (read_each (read_expr k c.args.depth)) (Ok c.in_ok-end.end) c.expressions.new.nodes) long rest.told);
-    }
+    let_made c.args.source.now.text.now c.args.spot c.args.nodes.now (length c.args.nodes.now) c.args.place c.in_ok-first.first (read_expr (length c.args.nodes.now) c.args.depth) (sym c.in_ok-first.ensures) sees.0 sees.1.0 _ c.in_ok-opened.opened.inside sees.1.1 c.in_ok-middle.middle c.in_ok-end.end c.bindings.new.nodes c.expressions.new.nodes c.in_ok-middle.ensures.told
+    (subst (λ k. OnEach c.args.source.now.text.now c.in_ok-middle.middle c.bindings.new.nodes (encode_each encode) (read_each (read_expr k c.args.depth)) (Ok c.in_ok-end.end) c.expressions.new.nodes) long c.in_ok-end.ensures.told)
 
-pub list-returns-in-Some-If : goal.list-returns-in-Some-If
-list-returns-in-Some-If t c =
-    record {
-      goes = goes_back c.args.source.now.text.now c.args.spot (record { place = c.behind.result; used = c.args.spot.used }) c.row.result c.behind.ensures.0 c.row.ensures.goes;
-      told = by_view c.args.source.now.text.now c.args.spot c.args.nodes.now (length c.args.nodes.now) c.args.depth c.args.place c.row.result c.row.new.nodes (Some formkind.If) (ap Some (sym c.in-Some-If.field-0-is) ∙ c.in-Some-If.ensures ∙ ap (λ s. form_kind s.head s.parts) c.survey.ensures) (on_if c.args.source.now.text.now c.args.spot c.args.nodes.now (length c.args.nodes.now) c.args.depth c.args.place c.behind.result c.row.result c.row.new.nodes c.behind.ensures c.row.ensures.told);
-    }
+pub list-returns-in-Some-If-clause-told : goal.list-returns-in-Some-If-clause-told
+list-returns-in-Some-If-clause-told t c =
+    let kind = ap Some (sym c.in-Some-If.field-0-is) ∙ c.in-Some-If.ensures ∙ ap (λ s. form_kind s.head s.parts) c.survey.ensures in
+    by_view c.args.source.now.text.now c.args.spot c.args.nodes.now (length c.args.nodes.now) c.args.depth c.args.place c.row.result c.row.new.nodes (Some formkind.If) kind (on_if c.args.source.now.text.now c.args.spot c.args.nodes.now (length c.args.nodes.now) c.args.depth c.args.place c.behind.result c.row.result c.row.new.nodes c.behind.ensures c.row.ensures.told)
 
-pub list-returns-in-Some-Begin : goal.list-returns-in-Some-Begin
-list-returns-in-Some-Begin t c =
-    record {
-      goes = goes_back c.args.source.now.text.now c.args.spot (record { place = c.behind.result; used = c.args.spot.used }) c.row-in-Some-Begin.result c.behind.ensures.0 c.row-in-Some-Begin.ensures.goes;
-      told = by_view c.args.source.now.text.now c.args.spot c.args.nodes.now (length c.args.nodes.now) c.args.depth c.args.place c.row-in-Some-Begin.result c.row-in-Some-Begin.new.nodes (Some formkind.Begin) (ap Some (sym c.in-Some-Begin.field-0-is) ∙ c.in-Some-Begin.ensures ∙ ap (λ s. form_kind s.head s.parts) c.survey.ensures) (on_begin c.args.source.now.text.now c.args.spot c.args.nodes.now (length c.args.nodes.now) c.args.depth c.args.place c.behind.result c.row-in-Some-Begin.result c.row-in-Some-Begin.new.nodes c.behind.ensures c.row-in-Some-Begin.ensures.told);
-    }
+pub list-returns-in-Some-Begin-clause-told : goal.list-returns-in-Some-Begin-clause-told
+list-returns-in-Some-Begin-clause-told t c =
+    let kind = ap Some (sym c.in-Some-Begin.field-0-is) ∙ c.in-Some-Begin.ensures ∙ ap (λ s. form_kind s.head s.parts) c.survey.ensures in
+    by_view c.args.source.now.text.now c.args.spot c.args.nodes.now (length c.args.nodes.now) c.args.depth c.args.place c.row-in-Some-Begin.result c.row-in-Some-Begin.new.nodes (Some formkind.Begin) kind (on_begin c.args.source.now.text.now c.args.spot c.args.nodes.now (length c.args.nodes.now) c.args.depth c.args.place c.behind.result c.row-in-Some-Begin.result c.row-in-Some-Begin.new.nodes c.behind.ensures c.row-in-Some-Begin.ensures.told)
 
-pub list-returns-in-Some-Let : goal.list-returns-in-Some-Let
-list-returns-in-Some-Let t c =
-    record {
-      goes = goes_back c.args.source.now.text.now c.args.spot (record { place = c.behind.result; used = c.args.spot.used }) c.let_form.result c.behind.ensures.0 c.let_form.ensures.goes;
-      told = by_view c.args.source.now.text.now c.args.spot c.args.nodes.now (length c.args.nodes.now) c.args.depth c.args.place c.let_form.result c.let_form.new.nodes (Some formkind.Let) (ap Some (sym c.in-Some-Let.field-0-is) ∙ c.in-Some-Let.ensures ∙ ap (λ s. form_kind s.head s.parts) c.survey.ensures) (on_let c.args.source.now.text.now c.args.spot c.args.nodes.now (length c.args.nodes.now) c.args.depth c.args.place c.behind.result c.let_form.result c.let_form.new.nodes c.behind.ensures c.let_form.ensures.told);
-    }
+pub list-returns-in-Some-Let-clause-told : goal.list-returns-in-Some-Let-clause-told
+list-returns-in-Some-Let-clause-told t c =
+    let kind = ap Some (sym c.in-Some-Let.field-0-is) ∙ c.in-Some-Let.ensures ∙ ap (λ s. form_kind s.head s.parts) c.survey.ensures in
+    by_view c.args.source.now.text.now c.args.spot c.args.nodes.now (length c.args.nodes.now) c.args.depth c.args.place c.let_form.result c.let_form.new.nodes (Some formkind.Let) kind (on_let c.args.source.now.text.now c.args.spot c.args.nodes.now (length c.args.nodes.now) c.args.depth c.args.place c.behind.result c.let_form.result c.let_form.new.nodes c.behind.ensures c.let_form.ensures.told)
 
-pub list-returns-in-Some-Case : goal.list-returns-in-Some-Case
-list-returns-in-Some-Case t c =
-    record {
-      goes = goes_back c.args.source.now.text.now c.args.spot (record { place = c.behind.result; used = c.args.spot.used }) c.case_form.result c.behind.ensures.0 c.case_form.ensures.goes;
-      told = by_view c.args.source.now.text.now c.args.spot c.args.nodes.now (length c.args.nodes.now) c.args.depth c.args.place c.case_form.result c.case_form.new.nodes (Some formkind.Case) (ap Some (sym c.in-Some-Case.field-0-is) ∙ c.in-Some-Case.ensures ∙ ap (λ s. form_kind s.head s.parts) c.survey.ensures) (on_case c.args.source.now.text.now c.args.spot c.args.nodes.now (length c.args.nodes.now) c.args.depth c.args.place c.behind.result c.case_form.result c.case_form.new.nodes c.behind.ensures c.case_form.ensures.told);
-    }
+pub list-returns-in-Some-Case-clause-told : goal.list-returns-in-Some-Case-clause-told
+list-returns-in-Some-Case-clause-told t c =
+    let kind = ap Some (sym c.in-Some-Case.field-0-is) ∙ c.in-Some-Case.ensures ∙ ap (λ s. form_kind s.head s.parts) c.survey.ensures in
+    by_view c.args.source.now.text.now c.args.spot c.args.nodes.now (length c.args.nodes.now) c.args.depth c.args.place c.case_form.result c.case_form.new.nodes (Some formkind.Case) kind (on_case c.args.source.now.text.now c.args.spot c.args.nodes.now (length c.args.nodes.now) c.args.depth c.args.place c.behind.result c.case_form.result c.case_form.new.nodes c.behind.ensures c.case_form.ensures.told)
 
-pub list-returns-in-Some-Dup : goal.list-returns-in-Some-Dup
-list-returns-in-Some-Dup t c =
-    record {
-      goes = goes_back c.args.source.now.text.now c.args.spot (record { place = c.behind.result; used = c.args.spot.used }) c.dup_form.result c.behind.ensures.0 c.dup_form.ensures.goes;
-      told = by_view c.args.source.now.text.now c.args.spot c.args.nodes.now (length c.args.nodes.now) c.args.depth c.args.place c.dup_form.result c.dup_form.new.nodes (Some formkind.Dup) (ap Some (sym c.in-Some-Dup.field-0-is) ∙ c.in-Some-Dup.ensures ∙ ap (λ s. form_kind s.head s.parts) c.survey.ensures) (on_dup c.args.source.now.text.now c.args.spot c.args.nodes.now (length c.args.nodes.now) c.args.depth c.args.place c.behind.result c.dup_form.result c.dup_form.new.nodes c.behind.ensures c.dup_form.ensures.told);
-    }
+pub list-returns-in-Some-Dup-clause-told : goal.list-returns-in-Some-Dup-clause-told
+list-returns-in-Some-Dup-clause-told t c =
+    let kind = ap Some (sym c.in-Some-Dup.field-0-is) ∙ c.in-Some-Dup.ensures ∙ ap (λ s. form_kind s.head s.parts) c.survey.ensures in
+    by_view c.args.source.now.text.now c.args.spot c.args.nodes.now (length c.args.nodes.now) c.args.depth c.args.place c.dup_form.result c.dup_form.new.nodes (Some formkind.Dup) kind (on_dup c.args.source.now.text.now c.args.spot c.args.nodes.now (length c.args.nodes.now) c.args.depth c.args.place c.behind.result c.dup_form.result c.dup_form.new.nodes c.behind.ensures c.dup_form.ensures.told)
 
-pub list-returns-in-Some-Apply : goal.list-returns-in-Some-Apply
-list-returns-in-Some-Apply t c =
-    record {
-      goes = c.row-in-Some-Apply.ensures.goes;
-      told = by_view c.args.source.now.text.now c.args.spot c.args.nodes.now (length c.args.nodes.now) c.args.depth c.args.place c.row-in-Some-Apply.result c.row-in-Some-Apply.new.nodes (Some formkind.Apply) (ap Some (sym c.in-Some-Apply.field-0-is) ∙ c.in-Some-Apply.ensures ∙ ap (λ s. form_kind s.head s.parts) c.survey.ensures) (on_apply c.args.source.now.text.now c.args.spot c.args.nodes.now (length c.args.nodes.now) c.args.depth c.args.place c.behind.result c.row-in-Some-Apply.result c.row-in-Some-Apply.new.nodes c.behind.ensures c.row-in-Some-Apply.ensures.told);
-    }
+pub list-returns-in-Some-Apply-clause-told : goal.list-returns-in-Some-Apply-clause-told
+list-returns-in-Some-Apply-clause-told t c =
+    let kind = ap Some (sym c.in-Some-Apply.field-0-is) ∙ c.in-Some-Apply.ensures ∙ ap (λ s. form_kind s.head s.parts) c.survey.ensures in
+    by_view c.args.source.now.text.now c.args.spot c.args.nodes.now (length c.args.nodes.now) c.args.depth c.args.place c.row-in-Some-Apply.result c.row-in-Some-Apply.new.nodes (Some formkind.Apply) kind (on_apply c.args.source.now.text.now c.args.spot c.args.nodes.now (length c.args.nodes.now) c.args.depth c.args.place c.behind.result c.row-in-Some-Apply.result c.row-in-Some-Apply.new.nodes c.behind.ensures c.row-in-Some-Apply.ensures.told)
 
-pub list-returns-in-None : goal.list-returns-in-None
-list-returns-in-None t c =
-    record {
-      goes = tt;
-      told = by_view c.args.source.now.text.now c.args.spot c.args.nodes.now (length c.args.nodes.now) c.args.depth c.args.place (Err c.wrong.result) c.args.nodes.now None (c.in-None.ensures ∙ ap (λ s. form_kind s.head s.parts) c.survey.ensures) (on_wrong c.args.source.now.text.now c.args.spot c.args.nodes.now (length c.args.nodes.now) c.args.depth c.args.place c.behind.result (Err c.wrong.result) c.args.nodes.now c.behind.ensures (ap Err c.wrong.ensures));
-    }
+pub list-returns-in-None-clause-told : goal.list-returns-in-None-clause-told
+list-returns-in-None-clause-told t c =
+    let kind = c.in-None.ensures ∙ ap (λ s. form_kind s.head s.parts) c.survey.ensures in
+    by_view c.args.source.now.text.now c.args.spot c.args.nodes.now (length c.args.nodes.now) c.args.depth c.args.place (Err c.wrong.result) c.args.nodes.now None kind (on_wrong c.args.source.now.text.now c.args.spot c.args.nodes.now (length c.args.nodes.now) c.args.depth c.args.place c.behind.result (Err c.wrong.result) c.args.nodes.now c.behind.ensures (ap Err c.wrong.ensures))

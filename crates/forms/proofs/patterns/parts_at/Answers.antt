@@ -2,16 +2,6 @@ use Rattle.std.proofs.Common.{sym, arith}
 use Rattle.forms.proofs.PatternLaws.{parts_next, parts_other, parts_list, parts_close, parts_end}
 use Rattle.forms.proofs.patterns.parts_at.Goals as goal
 
-pub parts-init : goal.parts-init
-parts-init c = (omega arith, λ r h. h)
-
-pub parts-smaller : goal.parts-smaller
-parts-smaller c =
-    let sees = c.in-Atom.ensures in
-    let forward = sees.1.forward in
-    let within = sees.1.within in
-    omega arith
-
 pub parts-preserved : goal.parts-preserved
 parts-preserved c =
     let sees = c.in-Atom.ensures in
