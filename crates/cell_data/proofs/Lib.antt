@@ -1,12 +1,1 @@
-pub mod Stores
-pub mod Rows
-pub mod Links
-pub mod Outs
-pub mod Keeping
-pub mod Spares
-pub mod Walking
-pub mod Roaming
-pub mod Sizing
-pub mod Dropping
-pub mod Copying
-pub mod Moves
+pub mod Giving

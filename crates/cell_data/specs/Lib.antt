@@ -1,9 +1,1 @@
-pub mod Trees
-pub mod Standing
-pub mod Taking
-pub mod Alike
-pub mod Reaching
-pub mod Refusals
-pub mod Walks
-pub mod WorkLists
 pub mod Copying

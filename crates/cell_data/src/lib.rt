@@ -1,12 +1,4 @@
-// Data in a store: what a value stands for, and the walks over it. No walk recurses or takes memory: its work list is
-// threaded through the spare numbers of the cells that it walks.
+// A copy of data that leaves nothing behind where it cannot go on; the other walks are those of `data`.
 #![tactic(auto)]
 
 pub mod copies;
-pub mod drops;
-pub mod laws;
-pub mod refusals;
-pub mod sizes;
-mod todo;
-mod turn;
-mod work_list;

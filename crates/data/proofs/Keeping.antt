@@ -30,7 +30,7 @@ among_right : {i : ℕ} (xs ys : List ℕ) → Among i ys → Among i (xs ++ ys)
 among_right [] ys a = a
 among_right (x ∷ xs) ys a = among_later (among_right xs ys a)
 
-among_either : {i : ℕ} (xs ys : List ℕ) → Among i (xs ++ ys) → Among i xs ⊎ Among i ys
+pub among_either : {i : ℕ} (xs ys : List ℕ) → Among i (xs ++ ys) → Among i xs ⊎ Among i ys
 among_either [] ys a = inr a
 among_either (x ∷ xs) ys (among_first s) = inl (among_first s)
 among_either (x ∷ xs) ys (among_later a) = ⊎_elim (λ b. inl (among_later b)) inr (among_either xs ys a)

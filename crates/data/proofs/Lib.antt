@@ -1,8 +1,13 @@
 pub mod Stores
+pub mod Rows
+pub mod Links
 pub mod Outs
 pub mod Keeping
 pub mod Spares
 pub mod Walking
 pub mod Roaming
+pub mod Lists
+pub mod Sizing
+pub mod Dropping
 pub mod Copying
 pub mod Moves

@@ -15,9 +15,8 @@ use Rattle.data.specs.Standing.{Plain}
 use Rattle.data.specs.Taking.{Out, out_none, out_plain, out_cell}
 use Rattle.data.specs.Walks.{Sizes, Drops, Copies}
 use Rattle.data.proofs.Stores.{set_back}
-use Rattle.data.proofs.Outs.{not_plain, plain_once, join, tally, Two, parts_at, exchange, joined}
+use Rattle.data.proofs.Outs.{not_plain, plain_once, join, tally, Two, parts_at, exchange, joined, headed}
 use Rattle.data.proofs.Keeping.{keeps_from_out, out_from_keeps}
-use Rattle.data.proofs.Copying.{headed}
 
 -- a part of a row moved to its front
 pub pull : (xs ys zs : List Value) (ts us ws : Trees) {cs m₀ : Cells} → tally ts ≡ length xs → tally us ≡ length ys → Out cs (xs ++ (ys ++ zs)) (join ts (join us ws)) m₀ → Out cs (ys ++ (xs ++ zs)) (join us (join ts ws)) m₀

@@ -1,10 +1,11 @@
 -- Laws of taking data out of a store.
-use Rattle.std.proofs.Common.{◌≡◌, ℕ, ◌+◌, ◌⊎◌, List, [], ◌∷◌, ◌++◌, length, set, Some, None, Option, sym, refl, ap, ◌∙◌, subst, inl, inr, ⊎_elim, arith}
-use Rattle.std.proofs.lemmas.Bool.{cases_eq}
+use Rattle.std.proofs.Common.{◌≡◌, ℕ, ◌+◌, ◌⊎◌, false, List, [], ◌∷◌, ◌++◌, length, set, Some, None, Option, sym, refl, ap, ◌∙◌, subst, inl, inr, ⊎_elim, arith}
+use Rattle.std.proofs.lemmas.Bool.{cases_eq, true≢false}
 use Rattle.std.proofs.lemmas.List.{set_comm, set-set, length-set}
 use Rattle.cells.specs.declared.values.Value.{Value}
 use Rattle.cells.specs.declared.values.Value.TheVariants.{Cell}
 use Rattle.cells.specs.declared.records.CellRecord.{CellRecord}
+use Rattle.cells.specs.Values.{is_cell}
 use Rattle.cells.specs.Records.{row}
 use Rattle.cells.specs.Meaning.{Cells, at, count_live, one}
 use Rattle.cells.proofs.CellLaws.{count_set}
@@ -13,6 +14,7 @@ use Rattle.data.specs.Trees.{Tree, Trees, built, none, more, size, sizes}
 use Rattle.data.specs.Standing.{Plain, plain_int, plain_bool, plain_symbol, plain_unit, plain_function}
 use Rattle.data.specs.Taking.{Out, out_none, out_plain, out_cell}
 use Rattle.data.specs.Alike.{Alike}
+use Rattle.data.specs.Reaching.{HasCell, has_first, has_later}
 use Rattle.data.proofs.Stores.{some_none, within, cleared_or_same}
 
 -- plain values
@@ -184,3 +186,59 @@ out_count out_none = omega arith
 out_count (out_plain p o) = omega (arith, plain_size p, out_count o)
 out_count {cs} (out_cell {n = n} r e k o) =
     omega (arith, count_set cs n None (within cs n r e), ap one e, out_count k, out_count o)
+
+-- one value of a row
+
+-- a plain one may be left out
+pub record Without (cs : Cells) (xs ys : List Value) (ts : Trees) (after : Cells) : Type 0 where
+  pub trees : Trees
+  pub out : Out cs (xs ++ ys) trees after
+  pub counts : sizes trees ≡ sizes ts
+
+pub without : (xs : List Value) (v : Value) {ys : List Value} {ts : Trees} {cs after : Cells} → is_cell v ≡ false → Out cs (xs ++ v ∷ ys) ts after → Without cs xs ys ts after
+without [] v p (out_plain {ts = ts} q o) = record { trees = ts; out = o; counts = omega (arith, plain_size q) }
+without [] v p (out_cell r e k o) = absurd (true≢false p)
+without (x ∷ xs) v p (out_plain {t = t} q o) = let u = without xs v p o in record { trees = more t u.trees; out = out_plain q u.out; counts = omega (arith, u.counts) }
+without (x ∷ xs) v p (out_cell {fields = fields} r e k o) = let u = without xs v p o in record { trees = more (built r.constructor fields) u.trees; out = out_cell r e k u.out; counts = omega (arith, u.counts) }
+
+-- each that is data names a live cell
+pub has_live : {cs after : Cells} {vs : List Value} {ts : Trees} {n : ℕ} → Out cs vs ts after → HasCell n vs → at cs n ≡ None → ⊥
+has_live out_none a z = elim a [ ]
+has_live (out_plain {t = t} p o) (has_first s) z = not_plain (subst (λ v. Plain v t) s p)
+has_live (out_plain p o) (has_later a) z = has_live o a z
+has_live {cs} {n = n} (out_cell {n = m} r e k o) (has_first s) z = let same : m ≡ n = cc in some_none e (subst (λ i. at cs i ≡ None) (sym same) z)
+has_live {cs} {n = n} (out_cell {n = m} r e k o) (has_later a) z = has_live o a (stays_free n (⊎_elim (λ y. y) (λ s. s ∙ z) (cleared_or_same cs n m)) k)
+
+-- it is live, it is taken out, and none that comes later names it
+pub record Inside (cs : Cells) (n : ℕ) (ys : List Value) (after : Cells) : Type 0 where
+  pub holds : CellRecord
+  pub is : at cs n ≡ Some holds
+  pub gone : at after n ≡ None
+  pub once : HasCell n ys → ⊥
+
+pub inside : (xs : List Value) {n : ℕ} {ys : List Value} {ts : Trees} {cs after : Cells} → Out cs (xs ++ Cell n ∷ ys) ts after → Inside cs n ys after
+inside xs {n} {ys} o =
+    let u = parts xs (Cell n ∷ ys) o in
+    let i = first_inside u.second in
+    record { holds = i.holds; is = was n i.holds i.is u.first; gone = i.gone; once = i.once }
+  where
+    first_inside : {mid to : Cells} {us : Trees} → Out mid (Cell n ∷ ys) us to → Inside mid n ys to
+    first_inside (out_plain p k) = absurd (not_plain p)
+    first_inside {mid} (out_cell r e k t) =
+        let free = stays_free n (at_cleared mid n) k in
+        record { holds = r; is = e; gone = stays_free n free t; once = λ a. has_live t a free }
+
+-- data at the head of a row
+pub record Headed (y : Cells) (n : ℕ) (vs : List Value) (ts : Trees) (after : Cells) : Type 0 where
+  pub holds : CellRecord
+  pub fields : Trees
+  pub others : Trees
+  pub mid : Cells
+  pub is : at y n ≡ Some holds
+  pub out : Out (set y n None) (row holds) fields mid
+  pub then : Out mid vs others after
+  pub shape : ts ≡ more (built holds.constructor fields) others
+
+pub headed : {y after : Cells} {n : ℕ} {vs : List Value} {ts : Trees} → Out y (Cell n ∷ vs) ts after → Headed y n vs ts after
+headed (out_plain q o) = absurd (not_plain q)
+headed (out_cell {mid = mid} {fields = fields} {ts = ts} r e k o) = record { holds = r; fields = fields; others = ts; mid = mid; is = e; out = k; then = o; shape = refl }

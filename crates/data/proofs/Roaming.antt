@@ -1,7 +1,7 @@
--- A walk on any store touches only what it can reach.
-use Rattle.std.proofs.Common.{◌≡◌, ℕ, zero, suc, ◌<◌, ◌≤◌, true, List, [], ◌∷◌, length, get_or, take, set, is_err, Some, None, Ok, Result, sym, refl, ap, ◌∙◌, subst, inl, inr, ⊎_elim, arith}
-use Rattle.data.specs.declared.refusals.WalkRefusal.{WalkRefusal}
-use Rattle.std.proofs.lemmas.Bool.{cases_eq, false≢true}
+-- A walk on any store touches only what it can reach, and of that only spare numbers.
+use Rattle.std.proofs.Common.{◌≡◌, ℕ, ◌≤◌, List, [], ◌∷◌, ◌++◌, length, set, Some, None, sym, refl, ap, ◌∙◌, subst, inl, inr, ⊎_elim, arith}
+use Rattle.std.proofs.lemmas.Bool.{cases_eq}
+use Rattle.std.proofs.lemmas.List.{length-set}
 use Rattle.cells.specs.declared.values.Value.{Value}
 use Rattle.cells.specs.declared.values.Value.TheVariants.{Unit as Nothing, Cell}
 use Rattle.cells.specs.declared.records.CellRecord.{CellRecord}
@@ -9,14 +9,16 @@ use Rattle.cells.specs.Records.{row}
 use Rattle.cells.specs.Meaning.{Cells, at}
 use Rattle.cells.proofs.Calls.{at_other, at_put}
 use Rattle.data.specs.declared.todo.Todo.{Todo}
-use Rattle.data.specs.declared.visit.Visit.{Visit}
 use Rattle.data.specs.Standing.{Among, among_first, among_later}
-use Rattle.data.specs.Alike.{Alike}
+use Rattle.data.specs.Alike.{Alike, Respared}
 use Rattle.data.specs.Reaching.{HasCell, has_first, has_later, Reached, reached_root, reached_field, Untouched}
-use Rattle.data.specs.WorkLists.{On, Roams, CanReach, Found, by_value, by_list}
+use Rattle.data.specs.WorkLists.{On, Roams, CanReach}
+use Rattle.data.specs.Steps.{next_of, rest_of, ValuePushed, push_nothing, push_data, add_nothing, add_data, RowAdded, added_none, added_more, Halted}
 use Rattle.data.proofs.Stores.{within}
 use Rattle.data.proofs.Outs.{alike_row}
 use Rattle.data.proofs.Keeping.{cleared_within}
+use Rattle.data.proofs.Walking.{Comes}
+use Rattle.data.proofs.Spares.{respared_none, respared_more, respared_set}
 
 nowhere : {i : ℕ} → Among i [] → ⊥
 nowhere a = elim a [ ]
@@ -96,70 +98,61 @@ roams_give {m} {cs} {root} exit n here e w =
     }
 
 -- the cell that comes next can be reached, and so can its fields
-pub record RoamsNext (m : Cells) (root : Value) (cs : Cells) (visit : Visit) : Type 0 where
-  pub here : Reached m root visit.cell
-  pub after : Roams m root cs Nothing visit.rest
-  pub fields : CanReach m root (row visit.contents)
+pub record RoamsNext (m : Cells) (root : Value) (cs : Cells) (n : ℕ) (r : CellRecord) (rest : ℕ) : Type 0 where
+  pub here : Reached m root n
+  pub after : Roams m root cs Nothing rest
+  pub fields : CanReach m root (row r)
 
 unit_hand : {m : Cells} {root : Value} (n : ℕ) → Nothing ≡ Cell n → Reached m root n
-unit_hand n e = let z : ◌≡◌ {A = ℕ} 0 1 = cc in absurd (omega arith)
+unit_hand n e = absurd (cc)
 
-pub roams_found : {m cs : Cells} {root : Value} (todo : Todo) (visit : Visit) → length cs ≤ 65535 → Found cs todo visit → Roams m root cs todo.value todo.rest → RoamsNext m root cs visit
-roams_found {m} {cs} {root} todo visit small (by_value v_is there rest-is) w =
-    let here = w.hand visit.cell v_is in
-    let old = w.kin visit.cell visit.contents there in
+reached_row : {m cs : Cells} {root v : Value} {head : ℕ} (n : ℕ) (r : CellRecord) → at cs n ≡ Some r → Roams m root cs v head → Reached m root n → CanReach m root (row r)
+reached_row n r e w here = record { each = λ k h. let old = w.kin n r e in reached_field old.0 here old.1 (subst (HasCell k) old.2 h) }
+
+roams_on : {m cs : Cells} {root : Value} (v : Value) (rest : ℕ) (r : CellRecord) → length cs ≤ 65535 → at cs (next_of v rest) ≡ Some r → Roams m root cs v rest → RoamsNext m root cs (next_of v rest) r (rest_of v rest r.spare)
+roams_on (Cell n) rest r small e w = let here = w.hand n refl in record { here = here; after = roams_hand Nothing unit_hand w; fields = reached_row n r e w here }
+roams_on {cs = cs} v rest r small e w =
+    let on : Among rest w.list = ⊎_elim (λ end. absurd (omega (arith, within cs rest r e))) (λ a. a) w.start in
+    let here = w.listed rest on in
     record {
       here = here;
-      after = subst (λ z. Roams m root cs Nothing z) (sym rest-is) (roams_hand Nothing unit_hand w);
-      fields = record { each = λ n h. reached_field old.0 here old.1 (subst (HasCell n) old.2 h) };
-    }
-roams_found {m} {cs} {root} todo visit small (by_list v_is list_is there rest-is) w =
-    let on : Among visit.cell w.list = ⊎_elim (λ end. absurd (omega (arith, within cs visit.cell visit.contents there, list_is, end))) (λ a. subst (λ z. Among z w.list) list_is a) w.start in
-    let here = w.listed visit.cell on in
-    let old = w.kin visit.cell visit.contents there in
-    record {
-      here = here;
-      after = record {
-        far = w.far;
-        kin = w.kin;
-        list = w.list;
-        listed = w.listed;
-        links = w.links;
-        start = subst (λ z. On w.list z) (sym rest-is) (w.links visit.cell visit.contents on there);
-        hand = unit_hand;
-      };
-      fields = record { each = λ n h. reached_field old.0 here old.1 (subst (HasCell n) old.2 h) };
+      after = record { far = w.far; kin = w.kin; list = w.list; listed = w.listed; links = w.links; start = w.links rest r on e; hand = unit_hand };
+      fields = reached_row rest r e w here;
     }
 
--- a refusal is no answer
-pub no_answer : {X : Type 0} {r : Result X WalkRefusal} {x : X} → is_err r ≡ true → r ≡ Ok x → ⊥
-no_answer h e = false≢true (sym (ap is_err e) ∙ h)
+pub roams_next : {m cs : Cells} {root : Value} {todo : Todo} {n rest : ℕ} {r : CellRecord} → length cs ≤ 65535 → Comes cs todo n r rest → Roams m root cs todo.value todo.rest → RoamsNext m root cs n r rest
+roams_next {todo = todo} {r = r} small f w = rw (f.next, f.behind) (roams_on todo.value todo.rest r small (rw f.next at f.here) w)
 
-pub ok_same : {X : Type 0} {x y : X} → ◌≡◌ {A = Result X WalkRefusal} (Ok x) (Ok y) → x ≡ y
-ok_same e = cc
+-- putting fields ahead
 
--- what is answered
-pub roams_head : {m cs : Cells} {root v : Value} {a b : ℕ} → ◌≡◌ {A = Result ℕ WalkRefusal} (Ok a) (Ok b) → Roams m root cs v a → Roams m root cs v b
-roams_head {m} {cs} {root} {v} e w = subst (λ x. Roams m root cs v x) (ok_same e) w
+pub pushed_roams : {m : Cells} {root : Value} {entry exit : Cells} {v : Value} {head top : ℕ} → ValuePushed entry v head top exit → Roams m root entry v head → Roams m root exit v top
+pushed_roams (push_nothing p up e) w = rw (e, up) w
+pushed_roams {exit = exit} {top = top} (push_data r q v_is small h alike link e) w = rw v_is (roams_push exit top r q h alike link e (rw v_is at w))
 
-pub roams_todo : {m cs : Cells} {root : Value} {a b : Todo} → ◌≡◌ {A = Result Todo WalkRefusal} (Ok a) (Ok b) → Roams m root cs a.value a.rest → Roams m root cs b.value b.rest
-roams_todo {m} {cs} {root} e w = subst (λ (x : Todo). Roams m root cs x.value x.rest) (ok_same e) w
+can_later : {m : Cells} {root f : Value} {fs : List Value} → CanReach m root (f ∷ fs) → CanReach m root fs
+can_later can = record { each = λ n h. can.each n (has_later h) }
 
-pub roams_at : {m cs : Cells} {root v : Value} {head : ℕ} (new : Todo) → new.value ≡ v → new.rest ≡ head → Roams m root cs v head → Roams m root cs new.value new.rest
-roams_at {m} {cs} {root} {v} new v_is head_is w = subst (λ x. Roams m root cs x new.rest) (sym v_is) (subst (λ x. Roams m root cs v x) (sym head_is) w)
+pub added_roams : {m : Cells} {root : Value} {entry : Cells} {v : Value} {head : ℕ} {fs : List Value} {w : Value} {top : ℕ} {exit : Cells} → RowAdded entry v head fs w top exit → CanReach m root fs → Roams m root entry v head → Roams m root exit w top
+added_roams added_none can w = w
+added_roams (added_more does (add_nothing p same up e)) can w = rw (e, same, up) (added_roams does (can_later can) w)
+added_roams (added_more {f = f} does (add_data p same push)) can w = rw same (roams_hand f (λ n h. can.each n (has_first h)) (pushed_roams push (added_roams does (can_later can) w)))
 
--- one value
-pub can_reach_one : {m : Cells} {root v : Value} → ((n : ℕ) → v ≡ Cell n → Reached m root n) → CanReach m root (v ∷ [])
-can_reach_one {m} {root} {v} h = record { each = λ n a. one_of n a }
+pub halted_untouched : {m entry exit : Cells} {root v : Value} {head : ℕ} {fs : List Value} → Halted entry v head fs exit → CanReach m root fs → Roams m root entry v head → Untouched m root exit
+halted_untouched h can w = roams_untouched (added_roams h.added (record { each = λ n a. can.each n (rw h.whole (later h.before a)) }) w)
   where
-    one_of : (n : ℕ) → HasCell n (v ∷ []) → Reached m root n
-    one_of n (has_first e) = h n e
-    one_of n (has_later a) = elim a [ ]
+    later : (xs : List Value) {n : ℕ} {ys : List Value} → HasCell n ys → HasCell n (xs ++ ys)
+    later [] a = a
+    later (x ∷ xs) a = has_later (later xs a)
 
--- a value of the row
-pub has_at : (vs : List Value) (i k n : ℕ) (d : Value) → i < k → k ≤ length vs → get_or vs i d ≡ Cell n → HasCell n (take k vs)
-has_at [] i k n d l m e = absurd (omega arith)
-has_at (v ∷ vs) zero zero n d l m e = absurd (omega arith)
-has_at (v ∷ vs) zero (suc k) n d l m e = has_first e
-has_at (v ∷ vs) (suc i) zero n d l m e = absurd (omega arith)
-has_at (v ∷ vs) (suc i) (suc k) n d l m e = has_later (has_at vs i k n d (omega arith) (omega arith) e)
+-- only spare numbers change
+pub pushed_same : {entry exit : Cells} {v : Value} {head top : ℕ} → ValuePushed entry v head top exit → (length exit ≡ length entry) × Respared entry exit
+pushed_same {entry} (push_nothing p up e) = rw e (refl, respared_none entry)
+pushed_same {entry} {top = top} (push_data r q v_is small h alike link e) = rw e (length-set entry top (Some q), respared_set entry top r q h alike)
+
+pub added_same : {entry : Cells} {v : Value} {head : ℕ} {fs : List Value} {w : Value} {top : ℕ} {exit : Cells} → RowAdded entry v head fs w top exit → (length exit ≡ length entry) × Respared entry exit
+added_same {entry} added_none = (refl, respared_none entry)
+added_same (added_more does (add_nothing p same up e)) = rw e (added_same does)
+added_same (added_more does (add_data p same push)) =
+    let a = added_same does in
+    let b = pushed_same push in
+    (b.0 ∙ a.0, respared_more a.1 b.1)

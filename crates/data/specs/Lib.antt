@@ -6,4 +6,5 @@ pub mod Reaching
 pub mod Refusals
 pub mod Walks
 pub mod WorkLists
+pub mod Steps
 pub mod Copying

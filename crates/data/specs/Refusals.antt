@@ -13,6 +13,6 @@ OnlyStuck (Ok x) = Unit {0}
 OnlyStuck (Err e) = e ≡ Stuck
 
 -- what holds of an answer that is not a refusal; none is
-abbrev pub Okay : {X : Type 0} → Result X WalkRefusal → (X → Type 0) → Type 0
+abbrev pub Okay : {X E : Type 0} → Result X E → (X → Type 0) → Type 0
 Okay (Ok x) P = P x
 Okay (Err e) P = ⊥

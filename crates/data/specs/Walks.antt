@@ -22,12 +22,14 @@ pub record Sizes (entry : Cells) (v : Value) (r : Result ℕ WalkRefusal) (exit 
   pub far : Untouched entry v exit
   pub counts : (t : Tree) (m₀ : Cells) → Keeps m₀ entry (v ∷ []) (more t none) → (r ≡ Ok (size t)) × Keeps m₀ exit (v ∷ []) (more t none)
 
--- drop: on any store no cell changes that cannot be reached from the value. Where the value stands for a tree, its cells
--- are free, as many as the answer says, and all else is as it was.
+-- drop: on any store no cell changes that cannot be reached from the value, and what is live afterwards is as it was but
+-- for its spare number. Where the value stands for a tree, its cells are free, as many as the answer says, and all else is
+-- as it was.
 pub record Drops (entry : Cells) (v : Value) (r : Result ℕ WalkRefusal) (exit : Cells) : Type 0 where
   pub long : length exit ≡ length entry
   pub stuck : OnlyStuck r
   pub far : Untouched entry v exit
+  pub left : Kept exit entry
   pub frees : (t : Tree) (m₀ : Cells) → Keeps m₀ entry (v ∷ []) (more t none) → (r ≡ Ok (size t)) × (exit ≡ m₀)
 
 -- copy, where the value stands for the tree t and m₀ is the rest of the store: enough cells were free, and the store

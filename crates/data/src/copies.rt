@@ -1,80 +1,115 @@
+ghost use Rattle.std.specs.Prelude.{◌≡◌, true};
+ghost use Rattle.cells.specs.Meaning.{is_live};
 ghost use Rattle.data.specs.Walks.{Copies};
-ghost use Rattle.data.specs.Copying.{CopiesField, Turns, CopiesCells, Rooms};
+ghost use Rattle.data.specs.Copying.{CopiesCell, FieldsCopied, Turned, CopiesCells, Rooms};
 
-use crate::copied::Copied;
 use crate::refusals::WalkRefusal;
 use crate::sizes::size_of;
+use crate::unfinished::Unfinished;
 use crate::work_list::{END, look};
 use cells::records::CellRecord;
 use cells::store::CellStore;
 use cells::values::Value;
 
-// Copies one value: a plain one is itself; of data the first record goes into a new cell, which waits before `head`.
-fn copy_field<S: CellStore>(store: &mut S, value: Value, head: u32) -> Result<Copied, WalkRefusal>
-    ensures { CopiesField (S.CellStore.cells store.old) value head result (S.CellStore.cells store.new) }
+// Copies the record of a cell into a new one, which waits before `head` until its fields are copied, too.
+#[inline(always)]
+fn copy_cell<S: CellStore>(store: &mut S, number: u32, head: u32) -> Result<u32, WalkRefusal>
+    ensures { CopiesCell (S.CellStore.cells store.old) number head result (S.CellStore.cells store.new) }
 {
-    match value {
-        Value::Cell(number) => match look(store, number) {
-            Ok(contents) => match store.take(contents.with_spare(head)) {
-                Ok(cell) => Ok(Copied {
-                    value: Value::Cell(cell as u32),
-                    head: cell as u32,
-                }),
-                Err(_) => Err(WalkRefusal::Stuck),
-            },
-            Err(_) => Err(WalkRefusal::Stuck),
-        },
-        _ => Ok(Copied { value, head }),
-    }
+    let contents = look(store, number)?;
+    let cell = store.take(contents.with_spare(head))?;
+    Ok(cell as u32)
 }
 
-// Copies the fields of the new cell that waits first, the last field first; their copies wait in its place.
-fn copy_fields<S: CellStore>(store: &mut S, cell: u32) -> Result<u32, WalkRefusal>
-    ensures { Turns (S.CellStore.cells store.old) cell result (S.CellStore.cells store.new) }
+// Puts new cells in place of those that the fields name, the last field first; the new cells wait before `head`. The
+// answer is the first of the cells that wait then, as an error where a field cannot be copied.
+#[inline(always)]
+fn copy_fields<S: CellStore>(
+    store: &mut S,
+    contents: &mut CellRecord,
+    head: u32,
+) -> Result<u32, u32>
+    ensures { FieldsCopied (S.CellStore.cells store.old) contents.old head contents.new (S.CellStore.cells store.new) result }
 {
-    let contents = look(store, cell)?;
-    let old = contents.fields;
-    let mut fields = old;
-    let mut top = contents.spare;
+    let mut top = head;
+    // by place, since `set_field` puts a field at a place: it keeps what the type says of a record
     for i in (0..contents.used as usize).rev() {
-        let field = old[i];
-        let copied = copy_field(store, field, top)?;
-        fields[i] = copied.value;
-        top = copied.head;
+        if let Value::Cell(number) = contents.fields[i] {
+            let Ok(cell) = copy_cell(store, number, top) else {
+                return Err(top);
+            };
+            contents.set_field(i, Value::Cell(cell));
+            top = cell;
+        }
     }
-    let renewed = CellRecord {
-        constructor: contents.constructor,
-        used: contents.used,
-        fields,
-        spare: contents.spare,
-    };
-    match store.write(cell as u16, renewed) {
-        Ok(_) => Ok(top),
-        Err(_) => Err(WalkRefusal::Stuck),
-    }
+    Ok(top)
 }
 
-// Copies the tree that the value stands for into free cells; it has no more cells than are live.
-fn copy_cells<S: CellStore>(store: &mut S, value: Value) -> Result<Value, WalkRefusal>
-    ensures { CopiesCells (S.CellStore.cells store.old) value result (S.CellStore.cells store.new) }
+// Copies the fields of the new cell that waits first, and puts it before the cells that are finished.
+#[inline(always)]
+fn copy_turn<S: CellStore>(store: &mut S, cell: u32, finished: u32) -> Result<u32, u32>
+    requires { is_live (S.CellStore.cells store.old) cell ≡ true }
+    ensures { Turned (S.CellStore.cells store.old) cell finished result (S.CellStore.cells store.new) }
+{
+    let Ok(contents) = look(store, cell) else {
+        unreachable()
+    };
+    let mut copy = contents;
+    let turn = copy_fields(store, &mut copy, contents.spare);
+    let Ok(_) = store.write(cell as u16, copy.with_spare(finished)) else {
+        unreachable()
+    };
+    turn
+}
+
+// Copies the tree whose root is this cell into free cells; it has no more cells than are live.
+fn copy_data<S: CellStore>(store: &mut S, number: u32) -> Result<Value, Unfinished>
+    ensures { CopiesCells (S.CellStore.cells store.old) (Value.Cell number) result (S.CellStore.cells store.new) }
 {
     let limit = store.live_count() as u32;
-    let first = copy_field(store, value, END)?;
-    let mut head = first.head;
+    let Ok(first) = copy_cell(store, number, END) else {
+        return Err(Unfinished {
+            waiting: END,
+            finished: END,
+        });
+    };
+    let mut waiting = first;
+    let mut finished = END;
     let mut count: u32 = 0;
-    'walk: while head != END {
+    'walk: while waiting != END {
         if count >= limit {
-            return Err(WalkRefusal::Stuck);
+            return Err(Unfinished { waiting, finished });
         }
-        head = copy_fields(store, head)?;
+        match copy_turn(store, waiting, finished) {
+            Ok(top) => {
+                finished = waiting;
+                waiting = top;
+            }
+            Err(top) => {
+                return Err(Unfinished {
+                    waiting: top,
+                    finished: waiting,
+                });
+            }
+        }
         count += 1;
     }
-    Ok(first.value)
+    Ok(Value::Cell(first))
+}
+
+// Copies the tree that the value stands for into free cells. A copy that cannot go on leaves its new cells to the caller.
+pub fn copy_cells<S: CellStore>(store: &mut S, value: Value) -> Result<Value, Unfinished>
+    ensures { CopiesCells (S.CellStore.cells store.old) value result (S.CellStore.cells store.new) }
+{
+    match value {
+        Value::Cell(number) => copy_data(store, number),
+        _ => Ok(value),
+    }
 }
 
 // Whether enough cells are free for a copy. The cells are counted only where they may be too few: a tree has no more
 // cells than are live.
-fn has_room<S: CellStore>(store: &mut S, value: Value) -> Result<bool, WalkRefusal>
+pub fn has_room<S: CellStore>(store: &mut S, value: Value) -> Result<bool, WalkRefusal>
     ensures { Rooms (S.CellStore.cells store.old) value result (S.CellStore.cells store.new) }
 {
     let live = store.live_count();
@@ -86,7 +121,7 @@ fn has_room<S: CellStore>(store: &mut S, value: Value) -> Result<bool, WalkRefus
     Ok(count <= free as u32)
 }
 
-// Copies the tree that the value stands for, if enough cells are free.
+// Copies the tree that the value stands for, if enough cells are free. Stuck, it leaves its new cells live.
 pub fn copy_value<S: CellStore>(store: &mut S, value: Value) -> Result<Value, WalkRefusal>
     ensures { Copies (S.CellStore.cells store.old) value result (S.CellStore.cells store.new) }
 {
@@ -94,5 +129,5 @@ pub fn copy_value<S: CellStore>(store: &mut S, value: Value) -> Result<Value, Wa
     if !room {
         return Err(WalkRefusal::NoFreeCell);
     }
-    copy_cells(store, value)
+    copy_cells(store, value).map_err(|_| WalkRefusal::Stuck)
 }

@@ -14,9 +14,7 @@ pub fn drop_value<S: CellStore>(store: &mut S, value: Value) -> Result<u32, Walk
     let mut count: u32 = 0;
     'walk: while is_open(todo) {
         let visit = next_visit(store, todo)?;
-        let Ok(_) = store.give_back(visit.cell) else {
-            return Err(WalkRefusal::Stuck);
-        };
+        store.give_back(visit.cell)?;
         todo = add_fields(store, visit.contents, visit.rest)?;
         count += 1;
     }

@@ -2,12 +2,12 @@
 // threaded through the spare numbers of the cells that it walks.
 #![tactic(auto)]
 
-pub mod copied;
 pub mod copies;
 pub mod drops;
 pub mod laws;
 pub mod refusals;
 pub mod sizes;
 pub mod todo;
+pub mod unfinished;
 pub mod visit;
 pub mod work_list;

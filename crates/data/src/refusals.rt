@@ -1,5 +1,8 @@
 ghost use Rattle.std.specs.Prelude.{◌≡◌};
 ghost use Rattle.data.specs.Refusals.{refusal_number};
+ghost use Rattle.data.specs.declared.refusals.WalkRefusal.TheVariants as refusal;
+
+use cells::refusals::StoreRefusal;
 
 // Why a walk refuses.
 #[derive(Clone, Copy, PartialEq, Eq)]
@@ -16,5 +19,14 @@ impl WalkRefusal {
         ensures { result ≡ refusal_number self }
     {
         self as u8
+    }
+}
+
+// A walk that its store refuses is stuck, whatever the store's reason.
+impl From<StoreRefusal> for WalkRefusal {
+    ghost from_gives = { λ e r. r ≡ refusal.Stuck };
+
+    fn from(_: StoreRefusal) -> WalkRefusal {
+        WalkRefusal::Stuck
     }
 }

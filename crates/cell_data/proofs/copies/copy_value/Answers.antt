@@ -1,52 +1,28 @@
-use Rattle.std.proofs.Common.{◌≡◌, ◌+◌, ◌≤◌, leb, length, is_ok, refl, ap, ◌∙◌, arith}
-use Rattle.std.proofs.lemmas.Bool.{false≢true, leb-true, leb-false}
-use Rattle.cells.specs.Meaning.{count_live}
-use Rattle.cell_data.specs.Trees.{size, more, none}
-use Rattle.cell_data.proofs.Keeping.{out_from_keeps}
-use Rattle.cell_data.proofs.Copying.{copy_says, copy_kept, copy_far, copy_back}
+use Rattle.std.proofs.Common.{◌≡◌, length, is_ok, refl, ap, ◌∙◌}
+use Rattle.std.proofs.lemmas.Bool.{true≢false}
+use Rattle.data.specs.Standing.{less}
+use Rattle.data.proofs.Copying.{told_ok, told_err, room_untold, room_lacking, room_used}
 use Rattle.cell_data.proofs.copies.copy_value.Goals as goal
 
 pub returns-in_err-room : goal.returns-in_err-room
-returns-in_err-room g c =
-    let sized = c.in_err-room.ensures in
-    record {
-      long = sized.long;
-      refused = λ e. sized.same;
-      kept = copy_kept sized.same (λ i r h. h);
-      far = copy_far _ sized.far (λ i r h. h);
-      copies = λ t m₀ k. absurd (false≢true (ap is_ok (sized.tells t m₀ k).0));
-    }
+returns-in_err-room g c = record { copy = room_untold _ c.in_err-room.ensures; refused = λ e. c.in_err-room.ensures.same }
 
 pub returns-then-not-room : goal.returns-then-not-room
-returns-then-not-room g c =
-    let entry = g.S.CellStore.cells c.args.store.now in
-    let sized = c.in_ok-room.ensures in
-    record {
-      long = sized.long;
-      refused = λ e. sized.same;
-      kept = copy_kept sized.same (λ i r h. h);
-      far = copy_far _ sized.far (λ i r h. h);
-      copies = λ t m₀ k.
-          let z = sized.tells t m₀ k in
-          let test : leb (count_live entry + size t) (length entry) ≡ c.in_ok-room.room = let y = z.0 in cc in
-          record { number = refl; short = leb-false _ _ (test ∙ c.if-not-room.true); still = z.1; same = sized.same };
-    }
+returns-then-not-room g c = record { copy = room_lacking c.if-not-room.true c.in_ok-room.ensures; refused = λ e. c.in_ok-room.ensures.same }
 
-pub returns : goal.returns
-returns g c =
-    let entry = g.S.CellStore.cells c.args.store.now in
-    let mid = g.S.CellStore.cells c.has_room.new.store in
+pub returns-in-Ok : goal.returns-in-Ok
+returns-in-Ok g c =
+    let does = c.in-Ok.ensures in
+    record { copy = room_used c.if-not-room.false c.in_ok-room.ensures does.long does.keeps told_ok does.copies; refused = λ e. absurd (true≢false (ap is_ok e)) }
+
+-- what the copy left is given back: its two lists, one after the other
+pub returns-in-Err : goal.returns-in-Err
+returns-in-Err g c =
+    let cells = g.S.CellStore.cells in
     let sized = c.in_ok-room.ensures in
-    let does = c.copy_cells.ensures in
-    record {
-      long = does.long ∙ sized.long;
-      refused = λ e. copy_back sized.same (does.back e);
-      kept = copy_kept sized.same does.keeps;
-      far = copy_far _ sized.far does.keeps;
-      copies = λ t m₀ k.
-          let z = sized.tells t m₀ k in
-          let test : leb (count_live entry + size t) (length entry) ≡ c.in_ok-room.room = let y = z.0 in cc in
-          let enough : count_live entry + size t ≤ length entry = leb-true _ _ (test ∙ c.if-not-room.false) in
-          let o = out_from_keeps m₀ mid _ _ z.1 in
-          copy_says entry mid _ m₀ c.args.value t _ (does.copies (more t none) m₀ o (omega (arith, enough, sized.long, sized.live))) o sized.same enough;
-    }
+    let does = c.in-Err.ensures in
+    let lists = does.left refl in
+    let first = c.give_list.ensures lists.ns lists.waiting in
+    let second = c.give_list-in-Err.ensures lists.ds (rw first lists.finished) in
+    let back : cells c.give_list-in-Err.new.store ≡ cells c.has_room.new.store = second ∙ (ap (less lists.ds) first ∙ lists.rest) in
+    record { copy = room_used c.if-not-room.false sized (ap length back) (λ i r h. rw back h) (told_err {u = c.in-Err.left}) does.copies; refused = λ e. rw back sized.same }

@@ -1,6 +1,6 @@
 use Rattle.std.proofs.Common.{arith}
 use Rattle.cells.proofs.Calls.{given_count}
-use Rattle.cell_data.proofs.Links.{giving_start, giving_turn, giving_end, giving_lost}
+use Rattle.cell_data.proofs.Giving.{giving_start, giving_turn, giving_end, giving_lost}
 use Rattle.cell_data.proofs.copies.give_list.Goals as goal
 
 pub walk-init : goal.walk-init

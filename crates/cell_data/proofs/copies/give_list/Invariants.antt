@@ -1,5 +1,5 @@
 use Rattle.cells.specs.Meaning.{count_live}
-use Rattle.cell_data.proofs.Links.{Giving}
+use Rattle.cell_data.proofs.Giving.{Giving}
 use Rattle.cell_data.proofs.copies.give_list.Given as goal
 
 abbrev pub invariant-walk : goal.invariant-walk

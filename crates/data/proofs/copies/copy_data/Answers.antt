@@ -1,0 +1,27 @@
+use Rattle.std.proofs.Common.{refl, arith}
+use Rattle.data.proofs.Outs.{out_count}
+use Rattle.data.proofs.Copying.{copying_start, copying_turn, copying_stopped, never_stopped, copying_open, copies_refused, nothing_new, root_copied, copies_whole}
+use Rattle.data.proofs.copies.copy_data.Goals as goal
+
+pub walk-init : goal.walk-init
+walk-init g c = copying_start (g.S.CellStore.small c.args.store.now) c.in-Ok.ensures
+
+pub returns-in_default : goal.returns-in_default
+returns-in_default g c = rw c.in_default.ensures.1 (copies_refused (nothing_new _) refl refl (λ ts m₀ o room. root_copied ts m₀ c.in_default.ensures.2 o room))
+
+pub returns-then-count-limit : goal.returns-then-count-limit
+returns-then-count-limit g c =
+    copies_refused c.walk.invariant.parts refl refl
+    (λ ts m₀ o room. omega (arith, copying_open ts m₀ c.walk-test.true c.walk.invariant o, out_count o, c.live_count-limit.ensures, c.if-count-limit.true))
+
+pub returns-in-Err : goal.returns-in-Err
+returns-in-Err g c =
+    let small = g.S.CellStore.small c.walk.store in
+    copies_refused (copying_stopped small c.walk-test.true c.in-Err.ensures c.walk.invariant) refl refl
+    (λ ts m₀ o room. never_stopped ts m₀ small c.walk-test.true c.in-Err.ensures c.walk.invariant o room)
+
+pub walk-preserved : goal.walk-preserved
+walk-preserved g c = copying_turn (g.S.CellStore.small c.walk.store) c.walk-test.true c.in-Ok-copy_turn.ensures c.walk.invariant
+
+pub returns : goal.returns
+returns g c = copies_whole _ (cc) c.walk-test.false c.walk.invariant
