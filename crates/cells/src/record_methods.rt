@@ -12,11 +12,10 @@ impl CellRecord {
     pub fn bare(constructor: u16) -> CellRecord
         ensures { Made constructor [] result }
     {
-        let unit = Value::Unit;
         CellRecord {
             constructor,
             used: 0,
-            fields: [unit; 6],
+            fields: [Value::Unit; FIELDS],
             spare: 0,
         }
     }
@@ -28,11 +27,8 @@ impl CellRecord {
         if values.len() > FIELDS {
             return None;
         }
-        let unit = Value::Unit;
-        let mut fields = [unit; 6];
-        for i in 0..values.len() {
-            fields[i] = values[i];
-        }
+        let mut fields = [Value::Unit; FIELDS];
+        fields[..values.len()].copy_from_slice(values);
         Some(CellRecord {
             constructor,
             used: values.len() as u8,
@@ -45,29 +41,18 @@ impl CellRecord {
     pub fn field(&self, place: usize) -> Value
         ensures { result ≡ slice_index_or self.now.fields place Value.Unit }
     {
-        let fields = &self.fields;
-        if place < FIELDS {
-            fields[place]
-        } else {
-            Value::Unit
-        }
+        self.fields.get(place).copied().unwrap_or(Value::Unit)
     }
 
     // The record with another value at a place; none exactly where the place is not used.
-    pub fn with_field(self, place: usize, value: Value) -> Option<CellRecord>
+    pub fn with_field(mut self, place: usize, value: Value) -> Option<CellRecord>
         ensures { MatchOption result (self.used ≤ place) (λ new. FieldPut self place value new) }
     {
         if place >= self.used as usize {
             return None;
         }
-        let mut fields = self.fields;
-        fields[place] = value;
-        Some(CellRecord {
-            constructor: self.constructor,
-            used: self.used,
-            fields,
-            spare: self.spare,
-        })
+        self.fields[place] = value;
+        Some(self)
     }
 
     // Puts another value at a place that is used; at any other nothing changes.
@@ -83,15 +68,10 @@ impl CellRecord {
 
     // The record with another spare number.
     #[inline(always)]
-    pub fn with_spare(self, spare: u32) -> CellRecord
+    pub fn with_spare(mut self, spare: u32) -> CellRecord
         ensures { SparePut self spare result }
     {
-        let fields = self.fields;
-        CellRecord {
-            constructor: self.constructor,
-            used: self.used,
-            fields,
-            spare,
-        }
+        self.spare = spare;
+        self
     }
 }

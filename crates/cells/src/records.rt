@@ -1,15 +1,16 @@
 ghost use Rattle.std.specs.Prelude.{◌≡◌, ℕ, ◌≤◌, true, length, drop};
 ghost use Rattle.cells.specs.Values.{all_unit};
 
+use crate::record_methods::FIELDS;
 use crate::values::Value;
 
 // What a live cell holds: a constructor, how many of its six fields are used, the fields, and a spare number that is
 // free for whoever walks the cells. Unused fields hold unit.
-#[derive(Clone, Copy)]
+#[derive(Clone, Copy, Debug, PartialEq, Eq)]
 pub struct CellRecord {
     pub constructor: u16,
     pub used: u8,
-    pub fields: [Value; 6],
+    pub fields: [Value; FIELDS],
     pub spare: u32,
     ghost six: { length fields ≡ 6 },
     ghost few: { used ≤ 6 },

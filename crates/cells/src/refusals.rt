@@ -2,7 +2,7 @@ ghost use Rattle.std.specs.Prelude.{◌≡◌};
 ghost use Rattle.cells.specs.Refusals.{refusal_number};
 
 // Why a store refuses a call. A refused call leaves the store as it was.
-#[derive(Clone, Copy, PartialEq, Eq)]
+#[derive(Clone, Copy, Debug, PartialEq, Eq)]
 pub enum StoreRefusal {
     // the number is not that of a live cell
     DeadCell = 20,

@@ -4,7 +4,7 @@ ghost use Rattle.cells.specs.Values.{kind_of, number_of, value_of, most};
 use crate::kinds::Kind;
 
 // A value: its kind, with what a value of that kind carries. Sym, function and cell numbers may be any.
-#[derive(Clone, Copy, PartialEq, Eq)]
+#[derive(Clone, Copy, Debug, PartialEq, Eq)]
 pub enum Value {
     Int(i32),
     Bool(bool),
