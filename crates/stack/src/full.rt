@@ -1,3 +1,3 @@
 // The answer of a push that found no room.
-#[derive(Clone, Copy)]
+#[derive(Clone, Copy, Debug, PartialEq, Eq)]
 pub struct Full;

@@ -10,6 +10,7 @@ ghost use Rattle.stack.specs.Items.{items, tops, room_of, slice_of, loan_of};
 mod full;
 
 pub use full::Full;
+use std::mem;
 
 // The entries are the first `len` of the lent slice, or all of it where `len` is past its end: so every
 // value of this type has a meaning, and a struct may hold a stack by value.
@@ -68,13 +69,12 @@ impl<'a, T: Copy> Stack<'a, T> {
         ensures slice { elim result [ Ok _ ↦ slice_of self.new ≡ slice_set (slice_of self.old) (length (items self.old)) x | Err _ ↦ slice_of self.new ≡ slice_of self.old ] }
         ensures loan { loan_of self.new ≡ loan_of self.old }
     {
-        if self.len < self.lent.len() {
-            let next = self.len;
-            self.lent[next] = x;
-            self.len = next + 1;
-            return Ok(());
+        if self.len >= self.lent.len() {
+            return Err(Full);
         }
-        Err(Full)
+        self.lent[self.len] = x;
+        self.len += 1;
+        Ok(())
     }
 
     // The top leaves.
@@ -85,11 +85,7 @@ impl<'a, T: Copy> Stack<'a, T> {
         ensures slice { slice_of self.new ≡ slice_of self.old }
         ensures loan { loan_of self.new ≡ loan_of self.old }
     {
-        let n = self.len();
-        if n == 0 {
-            return None;
-        }
-        let i = n - 1;
+        let i = self.len().checked_sub(1)?;
         self.len = i;
         Some(self.lent[i])
     }
@@ -98,12 +94,7 @@ impl<'a, T: Copy> Stack<'a, T> {
     pub fn at_depth(&self, depth: usize) -> Option<T>
         ensures { result ≡ slice_get (tops self.now) depth }
     {
-        let n = self.len();
-        if depth < n {
-            let lent = &self.lent[..];
-            return Some(lent[n - 1 - depth]);
-        }
-        None
+        self.lent[..self.len()].iter().rev().nth(depth).copied()
     }
 
     // The newest entry, where there is one.
@@ -123,14 +114,8 @@ impl<'a, T: Copy> Stack<'a, T> {
         ensures slice { elim result [ Some _ ↦ slice_of self.new ≡ slice_set (slice_of self.old) (length (items self.old) - 1 - depth) x | None ↦ slice_of self.new ≡ slice_of self.old ] }
         ensures loan { loan_of self.new ≡ loan_of self.old }
     {
-        let n = self.len();
-        if depth < n {
-            let i = n - 1 - depth;
-            let old = self.lent[i];
-            self.lent[i] = x;
-            return Some(old);
-        }
-        None
+        let i = self.len().checked_sub(depth)?.checked_sub(1)?;
+        Some(mem::replace(&mut self.lent[i], x))
     }
 
     // `x` takes the place of the newest entry. The answer is what stood there: where nothing did, nothing changes.
@@ -153,9 +138,7 @@ impl<'a, T: Copy> Stack<'a, T> {
         ensures slice { slice_of self.new ≡ slice_of self.old }
         ensures loan { loan_of self.new ≡ loan_of self.old }
     {
-        if len < self.len {
-            self.len = len;
-        }
+        self.len = self.len.min(len);
     }
 
     // The newest `count` entries leave; all of them where it holds fewer.
