@@ -94,7 +94,8 @@ impl<'a, T: Copy> Stack<'a, T> {
     pub fn at_depth(&self, depth: usize) -> Option<T>
         ensures { result ≡ slice_get (tops self.now) depth }
     {
-        self.lent[..self.len()].iter().rev().nth(depth).copied()
+        let place = self.len().checked_sub(depth)?.checked_sub(1)?;
+        Some(self.lent[place])
     }
 
     // The newest entry, where there is one.

@@ -231,9 +231,9 @@ run_word (b ∷ s) = go (in_word (class_of b)) refl (run_word s)
   where
     go : (v : Bool) → in_word (class_of b) ≡ v → (word_run s ≡ 0) ⊎ Word (take (word_run s) s) → (word_run (b ∷ s) ≡ 0) ⊎ Word (take (word_run (b ∷ s)) (b ∷ s))
     go true e rest =
-        let run : word_run (b ∷ s) ≡ suc (word_run s) = rw (e, word_run) refl in
+        let run : word_run (b ∷ s) ≡ suc (word_run s) = rw e (omega arith) in
         inr (rw run (elim rest [ inl z ↦ rw z (one (not_ending b e)) | inr w ↦ more (not_ending b e) w ]))
-    go false e rest = inl (rw (e, word_run) refl)
+    go false e rest = inl (rw e refl)
 
 -- and goes as far as it can
 pub run_ends : (s : List ℕ) → EndsWord (drop (word_run s) s)
@@ -241,16 +241,16 @@ run_ends [] = tt
 run_ends (b ∷ s) = go (in_word (class_of b)) refl (run_ends s)
   where
     go : (v : Bool) → in_word (class_of b) ≡ v → EndsWord (drop (word_run s) s) → EndsWord (drop (word_run (b ∷ s)) (b ∷ s))
-    go true e rest = let run : word_run (b ∷ s) ≡ suc (word_run s) = rw (e, word_run) refl in rw run rest
-    go false e rest = let run : word_run (b ∷ s) ≡ 0 = rw (e, word_run) refl in rw run (class_ends b e)
+    go true e rest = let run : word_run (b ∷ s) ≡ suc (word_run s) = rw e (omega arith) in rw run rest
+    go false e rest = let run : word_run (b ∷ s) ≡ 0 = rw e refl in rw run (class_ends b e)
 
 pub ends_none : (s : List ℕ) → EndsWord s → word_run s ≡ 0
 ends_none [] e = refl
-ends_none (b ∷ s) e = rw (ending_class b e, word_run) refl
+ends_none (b ∷ s) e = rw (ending_class b e) refl
 
 pub word_length : {w : List ℕ} (rest : List ℕ) → Word w → EndsWord rest → word_run (w ++ rest) ≡ length w
-word_length rest (one {b = b} n) e = rw (word_class b n, word_run) (ap suc (ends_none rest e))
-word_length rest (more {b = b} {s = s} n w) e = rw (word_class b n, word_run) (ap suc (word_length rest w e))
+word_length rest (one {b = b} n) e = rw (word_class b n) (let h = ends_none rest e in omega arith)
+word_length rest (more {b = b} {s = s} n w) e = rw (word_class b n) (let h = word_length rest w e in omega arith)
 
 -- runs end within the text
 pub word_within : (s : List ℕ) → word_run s ≤ length s
@@ -258,8 +258,8 @@ word_within [] = omega arith
 word_within (b ∷ s) = go (in_word (class_of b)) refl (word_within s)
   where
     go : (v : Bool) → in_word (class_of b) ≡ v → word_run s ≤ length s → word_run (b ∷ s) ≤ length (b ∷ s)
-    go true e h = let run : word_run (b ∷ s) ≡ suc (word_run s) = rw (e, word_run) refl in omega arith
-    go false e h = let run : word_run (b ∷ s) ≡ 0 = rw (e, word_run) refl in omega arith
+    go true e h = let run : word_run (b ∷ s) ≡ suc (word_run s) = rw e (omega arith) in omega arith
+    go false e h = let run : word_run (b ∷ s) ≡ 0 = rw e refl in omega arith
 
 pub separator_within : (o : Bool) (s : List ℕ) → separator_run o s ≤ length s
 separator_within o [] = omega arith

@@ -1,17 +1,16 @@
 -- The pass over a text answers the tokens of the grammar: those of every lawful text, and no others.
-use Rattle.std.proofs.Common.{◌≡◌, ℕ, ◌+◌, Bool, true, false, cond, ltb, leb, List, [], ◌∷◌, ◌++◌, length, take, drop, Ok, Err, Result, sym, refl, ap, ◌∙◌, subst, inl, inr, arith, ltb-true, lt-ltb, le-leb, leb-true}
+use Rattle.std.proofs.Common.{◌≡◌, ℕ, ◌+◌, Bool, true, false, cond, ltb, leb, List, [], ◌∷◌, ◌++◌, length, take, drop, Some, None, Ok, Err, Option, Result, sym, refl, ap, ◌∙◌, subst, inl, inr, arith, ltb-true, lt-ltb, le-leb, leb-true}
 use Rattle.std.proofs.lemmas.List.{append-nil, take-append-drop, take_all, drop_all, take_at, drop_at, length-take-le, length-drop}
 use Rattle.text.specs.declared.bracket.Bracket.{Bracket}
 use Rattle.text.specs.declared.bracket.Bracket.TheVariants.{Round, Square}
 use Rattle.text.specs.declared.front.Front.{Front}
-use Rattle.text.specs.declared.front.Front.TheVariants as front
 use Rattle.text.specs.declared.refusal.Refusal.{Refusal}
 use Rattle.text.specs.declared.refusal.Refusal.TheVariants as refusal
 use Rattle.text.specs.declared.refusal.Refused.{Refused}
 use Rattle.text.specs.declared.token.TokenKind.{TokenKind}
 use Rattle.text.specs.declared.token.TokenKind.TheVariants as kind
 use Rattle.text.specs.Bytes.{separator_run}
-use Rattle.text.specs.Fronts.{text_front}
+use Rattle.text.specs.Fronts.{token, text_front}
 use Rattle.text.specs.Tokens.{Lexeme, lexeme, Lexed, done, fault, also, lexed, lexed_from}
 use Rattle.text.specs.Scans.{refused_at, same_shape, nesting, precede, balanced, scan, counted}
 use Rattle.text.specs.Grammar.{Separator, Cut, last, next, NoBracket, Paired, closed, opens, closes, other, Tokens, Lawful}
@@ -39,11 +38,11 @@ all_gap s e =
     (g.after, subst (Separator false g.after) whole g.gap)
 
 -- before a token no comment is open
-closed_gap : (s : List ℕ) (k : TokenKind) (n : ℕ) → text_front (drop (separator_run false s) s) ≡ front.Token k n → Separator false false (take (separator_run false s) s)
+closed_gap : (s : List ℕ) (k : TokenKind) (n : ℕ) → text_front (drop (separator_run false s) s) ≡ token k n → Separator false false (take (separator_run false s) s)
 closed_gap s k n e =
     let g = run_separates false s in
     elim g.stops [
-      | inl z ↦ absurd (clash (let f = drop_all (separator_run false s) s (omega (arith, z)) in let h : front.Nothing ≡ front.Token k n = sym (ap text_front f) ∙ e in cc))
+      | inl z ↦ absurd (clash (let f = drop_all (separator_run false s) s (omega (arith, z)) in let h : Ok None ≡ token k n = sym (ap text_front f) ∙ e in cc))
       | inr p ↦ subst (λ o. Separator false o (take (separator_run false s) s)) p g.gap
     ]
 
@@ -51,17 +50,19 @@ closed_gap s k n e =
 cuts : (ts : List Lexeme) (i : ℕ) (s : List ℕ) → lexed 0 i s ≡ listed ts → Cut i s ts
 cuts [] i s e = go (text_front (drop (separator_run false s) s)) refl (sym (behind i s) ∙ e)
   where
-    go : (f : Front) → text_front (drop (separator_run false s) s) ≡ f → continued (i + separator_run false s) (drop (separator_run false s) s) f ≡ done → Cut i s []
-    go front.Nothing p h = let g = all_gap s (none_left (drop (separator_run false s) s) (run_whole false s) p) in last g.0 g.1
-    go (front.Refused r) p h = absurd (clash cc)
-    go (front.Token k n) p h = absurd (clash cc)
+    go : (f : Result (Option Front) Refusal) → text_front (drop (separator_run false s) s) ≡ f → continued (i + separator_run false s) (drop (separator_run false s) s) f ≡ done → Cut i s []
+    go (Ok None) p h = let g = all_gap s (none_left (drop (separator_run false s) s) (run_whole false s) p) in last g.0 g.1
+    go (Err r) p h = absurd (clash cc)
+    go (Ok (Some f)) p h = absurd (clash cc)
 cuts (t ∷ ts) i s e = go (text_front (drop (separator_run false s) s)) refl (sym (behind i s) ∙ e) (cuts ts)
   where
-    go : (f : Front) → text_front (drop (separator_run false s) s) ≡ f → continued (i + separator_run false s) (drop (separator_run false s) s) f ≡ also t (listed ts)
+    go : (f : Result (Option Front) Refusal) → text_front (drop (separator_run false s) s) ≡ f → continued (i + separator_run false s) (drop (separator_run false s) s) f ≡ also t (listed ts)
         → ((j : ℕ) (r : List ℕ) → lexed 0 j r ≡ listed ts → Cut j r ts) → Cut i s (t ∷ ts)
-    go front.Nothing p h more = absurd (clash cc)
-    go (front.Refused r) p h more = absurd (clash cc)
-    go (front.Token k n) p h more =
+    go (Ok None) p h more = absurd (clash cc)
+    go (Err r) p h more = absurd (clash cc)
+    go (Ok (Some f)) p h more =
+        let k = f.kind in
+        let n = f.size in
         let g = separator_run false s in
         let x = drop g s in
         let et : lexeme k (i + g) (take n x) ≡ t = cc in

@@ -1,6 +1,6 @@
 pub mod Runs
+pub mod Letters
 pub mod Digits
-pub mod FrontLaws
 pub mod TokenLaws
 pub mod ScanLaws
 pub mod GrammarBytes

@@ -1,61 +1,10 @@
--- What one byte does to a run of separators, of word bytes, or inside a symbol.
-use Rattle.std.proofs.Common.{◌≡◌, ℕ, suc, ◌+◌, ◌-◌, ◌<◌, ◌≤◌, Bool, true, false, cond, eqb, List, [], ◌∷◌, length, get_or, take, drop, Some, None, Option, refl, ap, ◌∙◌, add-one, arith, length-drop, drop-cons}
-use Rattle.std.proofs.lemmas.List.{drop_all, drop-drop, take_rest}
+-- What the next part does to the bytes inside a symbol.
+use Rattle.std.proofs.Common.{◌≡◌, ℕ, suc, ◌+◌, ◌-◌, ◌<◌, Bool, true, false, cond, eqb, List, [], ◌∷◌, length, take, drop, Some, None, Option, refl, ap, ◌∙◌, arith, length-drop}
+use Rattle.std.proofs.lemmas.List.{drop-drop, take_rest}
 use Rattle.std.specs.Option.{option_map}
-use Rattle.text.specs.declared.bytes.Class.{Class}
-use Rattle.text.specs.declared.bytes.Class.TheVariants.{Blank, Newline, Comment, Open, Close, Quote, Word}
 use Rattle.text.specs.declared.bytes.Inside.TheVariants.{Plain, Escape, Closed, Broken}
-use Rattle.text.specs.Bytes.{class_of, in_word, separates, comment_after, word_run, separator_run, part_inside, closing, closing_after}
+use Rattle.text.specs.Bytes.{part_inside, closing, closing_after}
 
-not_word : (k : Class) → (k ≡ Word → ⊥) → in_word k ≡ false
-not_word Word f = absurd (f refl)
-not_word Blank f = refl
-not_word Newline f = refl
-not_word Comment f = refl
-not_word (Open r) f = refl
-not_word (Close r) f = refl
-not_word Quote f = refl
-
--- what begins a token ends a run of separators
-pub stops : (k : Class) → (k ≡ Blank → ⊥) → (k ≡ Newline → ⊥) → (k ≡ Comment → ⊥) → separates k false ≡ false
-stops Blank f g h = absurd (f refl)
-stops Newline f g h = absurd (g refl)
-stops Comment f g h = absurd (h refl)
-stops (Open r) f g h = refl
-stops (Close r) f g h = refl
-stops Quote f g h = refl
-stops Word f g h = refl
-
--- only a newline ends a comment
-pub inside : (k : Class) → (k ≡ Newline → ⊥) → (separates k true ≡ true) × (true ≡ comment_after k true)
-inside Newline f = absurd (f refl)
-inside Blank f = (refl, refl)
-inside Comment f = (refl, refl)
-inside (Open r) f = (refl, refl)
-inside (Close r) f = (refl, refl)
-inside Quote f = (refl, refl)
-inside Word f = (refl, refl)
-
-module _ (s : List ℕ) (n : ℕ) (lt : n < length s) where
-  pub word_step : Word ≡ class_of (get_or s n 0) → word_run (drop n s) ≡ suc (word_run (drop (n + 1) s))
-  word_step e = rw (add-one, drop-cons s n 0 lt) (rw (← e, word_run) refl)
-
-  pub word_stop : (k : Class) → k ≡ class_of (get_or s n 0) → (k ≡ Word → ⊥) → word_run (drop n s) ≡ 0
-  word_stop k e f = rw (drop-cons s n 0 lt) (rw (← e, not_word k f, word_run) refl)
-
-  pub separator_step : (o o' : Bool) {k : Class} → k ≡ class_of (get_or s n 0) → separates k o ≡ true → o' ≡ comment_after k o → separator_run o (drop n s) ≡ suc (separator_run o' (drop (n + 1) s))
-  separator_step o o' {k} e t p = rw (add-one, drop-cons s n 0 lt, p) (rw e (rw (rw e at t, separator_run) refl))
-
-  pub separator_stop : (o : Bool) {k : Class} → k ≡ class_of (get_or s n 0) → separates k o ≡ false → separator_run o (drop n s) ≡ 0
-  separator_stop o e t = rw (drop-cons s n 0 lt) (rw (← e, t, separator_run) refl)
-
-pub word_end : (s : List ℕ) (n : ℕ) → length s ≤ n → word_run (drop n s) ≡ 0
-word_end s n h = rw (drop_all n s h)
-
-pub separator_end : (o : Bool) (s : List ℕ) (n : ℕ) → length s ≤ n → separator_run o (drop n s) ≡ 0
-separator_end o s n h = rw (drop_all n s h)
-
--- symbols
 broken : (x : List ℕ) → Broken ≡ part_inside x → closing x ≡ None
 broken [] e = refl
 broken (b ∷ x) e = rw (← e, closing_after) refl

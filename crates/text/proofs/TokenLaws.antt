@@ -4,14 +4,13 @@ use Rattle.std.proofs.lemmas.List.{drop-drop, take_rest, length-drop}
 use Rattle.text.specs.declared.bytes.Class.{Class}
 use Rattle.text.specs.declared.bytes.Class.TheVariants.{Blank, Newline, Comment, Open, Close, Quote, Word}
 use Rattle.text.specs.declared.front.Front.{Front}
-use Rattle.text.specs.declared.front.Front.TheVariants.{Nothing, Token, Refused}
 use Rattle.text.specs.declared.refusal.Refusal.{Refusal}
 use Rattle.text.specs.declared.refusal.Refusal.TheVariants as refusal
 use Rattle.text.specs.declared.token.TokenKind.{TokenKind}
 use Rattle.text.specs.declared.token.TokenKind.TheVariants as kind
 use Rattle.text.specs.Bytes.{class_of, separates, comment_after, separator_run, word_run, closing}
 use Rattle.text.specs.Words.{kind_of_word}
-use Rattle.text.specs.Fronts.{judged, closed_symbol, front_from, text_front}
+use Rattle.text.specs.Fronts.{front, token, judged, closed_symbol, begun, front_from, text_front}
 use Rattle.text.specs.Tokens.{lexeme, Lexed, done, fault, also, lexed, lexed_from}
 
 clash : ◌≡◌ {A = ℕ} 0 1 → ⊥
@@ -24,7 +23,7 @@ skip (suc n) i [] = refl
 skip (suc n) i (b ∷ s) = let e : i + 1 + n ≡ i + suc n = omega arith in skip n (i + 1) s ∙ ap (λ j. lexed 0 j (drop n s)) e
 
 -- a separator begins no token
-pub separator_begins_none : (k : Class) (text rest : List ℕ) → separates k false ≡ true → front_from k text rest ≡ Nothing
+pub separator_begins_none : (k : Class) (text rest : List ℕ) → separates k false ≡ true → front_from k text rest ≡ Ok None
 separator_begins_none Blank text rest e = refl
 separator_begins_none Newline text rest e = refl
 separator_begins_none Comment text rest e = refl
@@ -34,20 +33,20 @@ separator_begins_none Quote text rest e = absurd (clash cc)
 separator_begins_none Word text rest e = absurd (clash cc)
 
 -- what a word or a symbol begins is a token or refused
-judged_some : (n : ℕ) (r : Result TokenKind Refusal) → judged n r ≡ Nothing → ⊥
+judged_some : (n : ℕ) (r : Result TokenKind Refusal) → begun (judged n r) ≡ Ok None → ⊥
 judged_some n (Ok k) e = clash cc
 judged_some n (Err f) e = clash cc
 
-closed_some : (o : Option ℕ) → closed_symbol o ≡ Nothing → ⊥
+closed_some : (o : Option ℕ) → begun (closed_symbol o) ≡ Ok None → ⊥
 closed_some None e = clash cc
 closed_some (Some n) e = go (leb n 255) e
   where
-    go : (v : Bool) → cond v (Token kind.Symbol (n + 2)) (Refused refusal.Limit) ≡ Nothing → ⊥
+    go : (v : Bool) → begun (cond v (Ok (front kind.Symbol (n + 2))) (Err refusal.Limit)) ≡ Ok None → ⊥
     go true e = clash cc
     go false e = clash cc
 
 -- where no separator begins, a token does, or a refusal
-begins_some : (k : Class) (text rest : List ℕ) → separates k false ≡ false → front_from k text rest ≡ Nothing → ⊥
+begins_some : (k : Class) (text rest : List ℕ) → separates k false ≡ false → front_from k text rest ≡ Ok None → ⊥
 begins_some Blank text rest e f = clash cc
 begins_some Newline text rest e f = clash cc
 begins_some Comment text rest e f = clash cc
@@ -56,20 +55,24 @@ begins_some (Close r) text rest e f = clash cc
 begins_some Quote text rest e f = closed_some (closing rest) f
 begins_some Word text rest e f = judged_some (word_run text) (kind_of_word (take (word_run text) text)) f
 
+-- a token has one kind and one size
+pub same_token : {j k : TokenKind} {m n : ℕ} → token j m ≡ token k n → (j ≡ k) × (m ≡ n)
+same_token {j} {k} {m} {n} e = let z : front j m ≡ front k n = cc in (ap (λ f. f.kind) z, ap (λ f. f.size) z)
+
 -- a token has some bytes
-judged_size : (n m : ℕ) (k : TokenKind) (r : Result TokenKind Refusal) → judged n r ≡ Token k m → m ≡ n
-judged_size n m k (Ok j) e = cc
+judged_size : (n m : ℕ) (k : TokenKind) (r : Result TokenKind Refusal) → begun (judged n r) ≡ token k m → m ≡ n
+judged_size n m k (Ok j) e = sym (same_token e).1
 judged_size n m k (Err f) e = absurd (clash cc)
 
-closed_size : (o : Option ℕ) (k : TokenKind) (m : ℕ) → closed_symbol o ≡ Token k m → 0 < m
+closed_size : (o : Option ℕ) (k : TokenKind) (m : ℕ) → begun (closed_symbol o) ≡ token k m → 0 < m
 closed_size None k m e = absurd (clash cc)
 closed_size (Some n) k m e = go (leb n 255) e
   where
-    go : (v : Bool) → cond v (Token kind.Symbol (n + 2)) (Refused refusal.Limit) ≡ Token k m → 0 < m
-    go true e = let h : m ≡ n + 2 = cc in omega arith
+    go : (v : Bool) → begun (cond v (Ok (front kind.Symbol (n + 2))) (Err refusal.Limit)) ≡ token k m → 0 < m
+    go true e = let h = (same_token e).1 in omega arith
     go false e = absurd (clash cc)
 
-pub token_some : (s : List ℕ) (k : TokenKind) (n : ℕ) → text_front s ≡ Token k n → 0 < n
+pub token_some : (s : List ℕ) (k : TokenKind) (n : ℕ) → text_front s ≡ token k n → 0 < n
 token_some [] k n e = absurd (clash cc)
 token_some (b ∷ s) k n e = go (class_of b) refl
   where
@@ -77,11 +80,11 @@ token_some (b ∷ s) k n e = go (class_of b) refl
     go Blank p = absurd (clash (let f = rw p at e in cc))
     go Newline p = absurd (clash (let f = rw p at e in cc))
     go Comment p = absurd (clash (let f = rw p at e in cc))
-    go (Open r) p = let f = rw p at e in let h : n ≡ 1 = cc in omega arith
-    go (Close r) p = let f = rw p at e in let h : n ≡ 1 = cc in omega arith
+    go (Open r) p = let f : token (kind.Open r) 1 ≡ token k n = rw p at e in let h = (same_token f).1 in omega arith
+    go (Close r) p = let f : token (kind.Close r) 1 ≡ token k n = rw p at e in let h = (same_token f).1 in omega arith
     go Quote p = closed_size (closing s) k n (rw p at e)
     go Word p =
-        let w : word_run (b ∷ s) ≡ suc (word_run s) = rw (p, word_run) refl in
+        let w : word_run (b ∷ s) ≡ suc (word_run s) = rw p (omega arith) in
         let h = judged_size (word_run (b ∷ s)) n k (kind_of_word (take (word_run (b ∷ s)) (b ∷ s))) (rw p at e) in
         omega arith
 
@@ -135,28 +138,31 @@ no_run b s z = go (separates (class_of b) false) refl
     go false p = p
 
 -- all tokens of a text whose first byte is no separator, from what stands at its front
-abbrev pub continued : ℕ → List ℕ → Front → Lexed
-continued i s Nothing = done
-continued i s (Refused e) = fault e i
-continued i s (Token k n) = also (lexeme k i (take n s)) (lexed 0 (i + n) (drop n s))
+abbrev pub continued : ℕ → List ℕ → Result (Option Front) Refusal → Lexed
+continued i s (Ok None) = done
+continued i s (Err e) = fault e i
+continued i s (Ok (Some f)) = also (lexeme f.kind i (take f.size s)) (lexed 0 (i + f.size) (drop f.size s))
 
 pub lead : (i : ℕ) (s : List ℕ) → separator_run false s ≡ 0 → lexed 0 i s ≡ continued i s (text_front s)
 lead i [] z = refl
 lead i (b ∷ s) z = go (text_front (b ∷ s)) refl
   where
-    go : (f : Front) → text_front (b ∷ s) ≡ f → lexed 0 i (b ∷ s) ≡ continued i (b ∷ s) f
-    go Nothing e = absurd (begins_some (class_of b) (b ∷ s) s (no_run b s z) e)
-    go (Refused r) e = rw (e, lexed) refl
-    go (Token k zero) e = absurd (let h = token_some (b ∷ s) k 0 e in omega arith)
-    go (Token k (suc m)) e =
+    sized : (k : TokenKind) (n : ℕ) → text_front (b ∷ s) ≡ token k n → lexed 0 i (b ∷ s) ≡ continued i (b ∷ s) (token k n)
+    sized k zero e = absurd (let h = token_some (b ∷ s) k 0 e in omega arith)
+    sized k (suc m) e =
         let here : lexed 0 i (b ∷ s) ≡ also (lexeme k i (take (suc m) (b ∷ s))) (lexed (suc m - 1) (i + 1) s) = rw (e, lexed) refl in
         let less : suc m - 1 ≡ m = omega arith in
         let on : i + 1 + m ≡ i + suc m = omega arith in
         here ∙ ap (λ j. also (lexeme k i (take (suc m) (b ∷ s))) (lexed j (i + 1) s)) less
         ∙ ap (also (lexeme k i (take (suc m) (b ∷ s)))) (skip m (i + 1) s ∙ ap (λ j. lexed 0 j (drop m s)) on)
 
+    go : (f : Result (Option Front) Refusal) → text_front (b ∷ s) ≡ f → lexed 0 i (b ∷ s) ≡ continued i (b ∷ s) f
+    go (Ok None) e = absurd (begins_some (class_of b) (b ∷ s) s (no_run b s z) e)
+    go (Err r) e = rw (e, lexed) refl
+    go (Ok (Some f)) e = sized f.kind f.size e
+
 -- where neither a separator nor a token begins, nothing is left
-pub none_left : (s : List ℕ) → separator_run false s ≡ 0 → text_front s ≡ Nothing → s ≡ []
+pub none_left : (s : List ℕ) → separator_run false s ≡ 0 → text_front s ≡ Ok None → s ≡ []
 none_left [] z e = refl
 none_left (b ∷ s) z e = absurd (begins_some (class_of b) (b ∷ s) s (no_run b s z) e)
 
@@ -168,7 +174,7 @@ module _ (text : List ℕ) (at n : ℕ) (e : n ≡ separator_run false (take (le
   ended : separator_run false (drop (at + n) text) ≡ 0
   ended = ap (separator_run false) (sym (drop-drop n at text) ∙ ap (λ m. drop m (drop at text)) run_from) ∙ run_whole false (drop at text)
 
-  pub next_is : (f : Front) → f ≡ text_front (take (length text - (at + n)) (drop (at + n) text)) → lexed_from text at ≡ continued (at + n) (drop (at + n) text) f
+  pub next_is : (f : Result (Option Front) Refusal) → f ≡ text_front (take (length text - (at + n)) (drop (at + n) text)) → lexed_from text at ≡ continued (at + n) (drop (at + n) text) f
   next_is f h =
       over_separators at (drop at text)
       ∙ ap (λ m. lexed 0 (at + m) (drop m (drop at text))) (sym run_from)
@@ -176,7 +182,7 @@ module _ (text : List ℕ) (at n : ℕ) (e : n ≡ separator_run false (take (le
       ∙ lead (at + n) (drop (at + n) text) ended
       ∙ ap (continued (at + n) (drop (at + n) text)) (sym (h ∙ ap text_front (take_rest text (at + n))))
 
-  pub next_end : Nothing ≡ text_front (take (length text - (at + n)) (drop (at + n) text)) → length text ≤ at + n
+  pub next_end : Ok None ≡ text_front (take (length text - (at + n)) (drop (at + n) text)) → length text ≤ at + n
   next_end h =
       let none = none_left (drop (at + n) text) ended (ap text_front (sym (take_rest text (at + n))) ∙ sym h) in
       omega (arith, ap length none, length-drop (at + n) text)

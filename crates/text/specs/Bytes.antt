@@ -1,5 +1,6 @@
 -- What the bytes at the front of a text are: separators, words, the inside of a symbol.
 use Rattle.std.specs.Prelude.{ℕ, suc, Bool, true, false, cond, ◌||◌, List, [], ◌∷◌, Some, None, Option, ◌==◌}
+use Rattle.std.specs.List.{prefix_len}
 use Rattle.std.specs.Option.{option_map}
 use Rattle.text.specs.declared.bracket.Bracket.TheVariants.{Round, Square}
 use Rattle.text.specs.declared.bytes.Class.{Class}
@@ -30,8 +31,7 @@ in_word Quote = false
 
 -- The length of the longest front of bytes that can stand in a word.
 abbrev pub word_run : List ℕ → ℕ
-word_run [] = 0
-word_run (b ∷ s) = elim (in_word (class_of b)) [ true ↦ suc (word_run s) | false ↦ 0 ]
+word_run = prefix_len (λ b. in_word (class_of b))
 
 -- Whether a comment is open after a byte, from whether one was open before it.
 abbrev pub comment_after : Class → Bool → Bool

@@ -5,7 +5,6 @@ use Rattle.text.specs.Keywords.{keyword_spelt}
 use Rattle.text.specs.Tokens.{Lexeme}
 use Rattle.text.specs.declared.bracket.Bracket.{Bracket}
 use Rattle.text.specs.declared.bracket.Bracket.TheVariants.{Round, Square}
-use Rattle.text.specs.declared.integer.Integer.TheVariants.{Fits, Neither}
 use Rattle.text.specs.declared.refusal.Refused.{Refused}
 use Rattle.text.specs.declared.token.TokenKind.{TokenKind}
 use Rattle.text.specs.declared.token.TokenKind.TheVariants.{Open, Close, Symbol, Integer, Keyword, Name}
@@ -49,9 +48,9 @@ Spelt (Close Round) w = w ≡ 41 ∷ []
 Spelt (Open Square) w = w ≡ 91 ∷ []
 Spelt (Close Square) w = w ≡ 93 ∷ []
 Spelt Symbol w = (s : List ℕ) × (w ≡ 39 ∷ (s ++ 39 ∷ [])) × Quoted s × (length s ≤ 255)
-Spelt (Integer n) w = Word w × (integer_value w ≡ Fits n)
-Spelt (Keyword k) w = Word w × (integer_value w ≡ Neither) × (keyword_spelt w ≡ Some k)
-Spelt Name w = Word w × (integer_value w ≡ Neither) × (keyword_spelt w ≡ None) × (length w ≤ 63)
+Spelt (Integer n) w = Word w × (integer_value w ≡ Ok (Some n))
+Spelt (Keyword k) w = Word w × (integer_value w ≡ Ok None) × (keyword_spelt w ≡ Some k)
+Spelt Name w = Word w × (integer_value w ≡ Ok None) × (keyword_spelt w ≡ None) × (length w ≤ 63)
 
 -- neither its first nor its last byte is a blank
 abbrev pub LastUnblank : ℕ → List ℕ → Type 0

@@ -1,8 +1,7 @@
 -- The tokens of a text, in order.
-use Rattle.std.specs.Prelude.{ℕ, zero, suc, ◌+◌, ◌-◌, false, List, [], ◌∷◌, take, drop}
+use Rattle.std.specs.Prelude.{ℕ, zero, suc, ◌+◌, ◌-◌, false, List, [], ◌∷◌, take, drop, Some, None, Ok, Err}
 use Rattle.text.specs.Bytes.{separator_run}
 use Rattle.text.specs.Fronts.{text_front}
-use Rattle.text.specs.declared.front.Front.TheVariants as front
 use Rattle.text.specs.declared.refusal.Refusal.{Refusal}
 use Rattle.text.specs.declared.token.Token.{Token}
 use Rattle.text.specs.declared.token.TokenKind.{TokenKind}
@@ -31,9 +30,9 @@ abbrev pub lexed : ℕ → ℕ → List ℕ → Lexed
 lexed n i [] = done
 lexed (suc n) i (b ∷ s) = lexed n (i + 1) s
 lexed zero i (b ∷ s) = elim (text_front (b ∷ s)) [
-  | front.Nothing ↦ lexed (separator_run false (b ∷ s) - 1) (i + 1) s
-  | front.Refused e ↦ fault e i
-  | front.Token k n ↦ also (lexeme k i (take n (b ∷ s))) (lexed (n - 1) (i + 1) s)
+  | Ok None ↦ lexed (separator_run false (b ∷ s) - 1) (i + 1) s
+  | Err e ↦ fault e i
+  | Ok (Some f) ↦ also (lexeme f.kind i (take f.size (b ∷ s))) (lexed (f.size - 1) (i + 1) s)
 ]
 
 -- the tokens of a text from a place on

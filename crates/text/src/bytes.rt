@@ -1,11 +1,11 @@
 // What bytes begin and how far they go: separators, words, symbols.
 ghost use Rattle.std.specs.Prelude.{◌≡◌, ℕ, ◌+◌, ◌-◌, ◌<◌, ◌≤◌, true, false, length, IfSome};
-ghost use Rattle.text.specs.Bytes.{class_of, word_run, separator_run, part_inside, closing};
+ghost use Rattle.text.specs.Bytes.{class_of, in_word, word_run, separator_run, part_inside, closing};
 
 use super::Bracket;
 
 // What a byte begins where no token has begun.
-#[derive(Clone, Copy)]
+#[derive(Clone, Copy, Debug, PartialEq, Eq)]
 pub enum Class {
     Blank,
     Newline,
@@ -32,19 +32,18 @@ pub(crate) fn class_of(b: u8) -> Class
     }
 }
 
+fn stands_in_word(b: u8) -> bool
+    ensures { result ≡ in_word (class_of b) }
+{
+    matches!(class_of(b), Class::Word)
+}
+
 // How many bytes at the front can stand in a word.
 pub(crate) fn word_len(s: &[u8]) -> usize
     ensures value { result ≡ word_run s.now }
     ensures within { result ≤ length s.now }
 {
-    let mut n = 0;
-    while n < s.len() {
-        match class_of(s[n]) {
-            Class::Word => n += 1,
-            _ => return n,
-        }
-    }
-    n
+    s.iter().take_while(|b| stands_in_word(**b)).count()
 }
 
 // How many bytes at the front only separate: blanks, and comments, each through its newline.
@@ -52,26 +51,21 @@ pub(crate) fn separator_len(s: &[u8]) -> usize
     ensures value { result ≡ separator_run false s.now }
     ensures within { result ≤ length s.now }
 {
-    let mut n = 0;
     let mut comment = false;
-    while n < s.len() {
-        match class_of(s[n]) {
+    for (n, b) in s.iter().enumerate() {
+        match class_of(*b) {
             Class::Blank => {}
             Class::Newline => comment = false,
             Class::Comment => comment = true,
-            _ => {
-                if !comment {
-                    return n;
-                }
-            }
+            _ if comment => {}
+            _ => return n,
         }
-        n += 1;
     }
-    n
+    s.len()
 }
 
 // What comes next between the quotes of a symbol.
-#[derive(Clone, Copy)]
+#[derive(Clone, Copy, Debug, PartialEq, Eq)]
 pub enum Inside {
     Plain,
     Escape,
@@ -96,6 +90,7 @@ pub(crate) fn symbol_len(s: &[u8]) -> Option<usize>
     ensures within { IfSome result (λ n. n < length s.now) }
 {
     let mut n = 0;
+    // an escape is one part of two bytes, so the parts are no iterator over bytes: that would carry a flag beside the count
     loop {
         match inside_of(&s[n..]) {
             Inside::Closed => return Some(n),

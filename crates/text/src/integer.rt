@@ -1,20 +1,9 @@
 // The integer that a word writes: digits, with or without one sign before them.
 ghost use Rattle.std.specs.Prelude.{◌≡◌, ◌≤◌, true};
-ghost use Rattle.text.specs.Integers.{is_minus, unsigned, only_digits, decimal, capped, signed, integer_value};
+ghost use Rattle.std.specs.List.{list_all};
+ghost use Rattle.text.specs.Integers.{is_minus, unsigned, digit_byte, only_digits, decimal, capped, signed, integer_value};
 
-// The least integer has this magnitude, and the greatest one less.
-const LEAST: u64 = 2147483648;
-
-// What a word is as an integer.
-#[derive(Clone, Copy)]
-pub enum Integer {
-    // not an integer, but a name or a reserved word
-    Neither,
-    // an integer of 32 bits
-    Fits(i32),
-    // an integer that needs more bits
-    TooLarge,
-}
+use super::Refusal;
 
 // Whether a word's sign is minus, and what follows the sign.
 fn split_sign(word: &[u8]) -> (bool, &[u8])
@@ -28,62 +17,47 @@ fn split_sign(word: &[u8]) -> (bool, &[u8])
     }
 }
 
+fn all_digits(s: &[u8]) -> bool
+    ensures { result ≡ list_all digit_byte s.now }
+{
+    s.iter().all(|b| b.is_ascii_digit())
+}
+
 // Whether the bytes are some digits and nothing else.
 fn is_digits(s: &[u8]) -> bool
     ensures { result ≡ only_digits s.now }
 {
-    for b in s {
-        if !b.is_ascii_digit() {
-            return false;
-        }
-    }
-    !s.is_empty()
+    !s.is_empty() && all_digits(s)
 }
 
-// The number that the digits write, or none above the largest magnitude.
+// The number that the digits write, or none above 32 bits.
 fn magnitude(digits: &[u8]) -> Option<u32>
     requires { only_digits digits.now ≡ true }
     ensures { result ≡ capped (decimal 0 digits.now) }
 {
-    let mut n: u64 = 0;
+    let mut n: u32 = 0;
     for d in digits {
-        n = n * 10 + u64::from(*d - b'0');
-        if n > LEAST {
-            return None;
-        }
+        n = n.checked_mul(10)?.checked_add(u32::from(*d - b'0'))?;
     }
-    Some(n as u32)
+    Some(n)
 }
 
 // The integer with this sign and magnitude.
-fn with_sign(minus: bool, n: u32) -> Integer
+fn with_sign(minus: bool, n: u32) -> Result<i32, Refusal>
     ensures { result ≡ signed minus n }
 {
-    let n = u64::from(n);
-    if minus {
-        if n <= LEAST {
-            Integer::Fits((0 - n as i64) as i32)
-        } else {
-            Integer::TooLarge
-        }
-    } else {
-        if n < LEAST {
-            Integer::Fits(n as i32)
-        } else {
-            Integer::TooLarge
-        }
-    }
+    let n = i64::from(n);
+    i32::try_from(if minus { -n } else { n }).map_err(|_| Refusal::Integer)
 }
 
-pub(crate) fn integer_of(word: &[u8]) -> Integer
+// The integer that `word` writes; none where it is a name or a reserved word, and a refusal where it needs more than 32 bits.
+pub(crate) fn integer_of(word: &[u8]) -> Result<Option<i32>, Refusal>
     ensures { result ≡ integer_value word.now }
 {
     let (minus, digits) = split_sign(word);
     if !is_digits(digits) {
-        return Integer::Neither;
+        return Ok(None);
     }
-    match magnitude(digits) {
-        Some(n) => with_sign(minus, n),
-        None => Integer::TooLarge,
-    }
+    let n = magnitude(digits).ok_or(Refusal::Integer)?;
+    with_sign(minus, n).map(Some)
 }

@@ -1,9 +1,8 @@
 // The reserved words. None of them is a name.
 ghost use Rattle.std.specs.Prelude.{◌≡◌};
-ghost use Rattle.std.specs.Str.{bytes_eq};
 ghost use Rattle.text.specs.Keywords.{word_of_definition, word_of_expression, word_of_type, word_of_literal, keyword_spelt};
 
-#[derive(Clone, Copy)]
+#[derive(Clone, Copy, Debug, PartialEq, Eq)]
 pub enum Keyword {
     Colon,
     Val,
@@ -25,28 +24,17 @@ pub enum Keyword {
     Wildcard,
 }
 
-fn is_same(a: &[u8], b: &[u8]) -> bool
-    ensures { result ≡ bytes_eq a.now b.now }
-{
-    a == b
-}
-
 // The words that begin a definition.
 fn definition_word(word: &[u8]) -> Option<Keyword>
     ensures { result ≡ word_of_definition word.now }
 {
-    if is_same(word, b":") {
-        Some(Keyword::Colon)
-    } else if is_same(word, b"val") {
-        Some(Keyword::Val)
-    } else if is_same(word, b"define") {
-        Some(Keyword::Define)
-    } else if is_same(word, b"datatype") {
-        Some(Keyword::Datatype)
-    } else if is_same(word, b"use") {
-        Some(Keyword::Use)
-    } else {
-        None
+    match word {
+        b":" => Some(Keyword::Colon),
+        b"val" => Some(Keyword::Val),
+        b"define" => Some(Keyword::Define),
+        b"datatype" => Some(Keyword::Datatype),
+        b"use" => Some(Keyword::Use),
+        _ => None,
     }
 }
 
@@ -54,18 +42,13 @@ fn definition_word(word: &[u8]) -> Option<Keyword>
 fn expression_word(word: &[u8]) -> Option<Keyword>
     ensures { result ≡ word_of_expression word.now }
 {
-    if is_same(word, b"if") {
-        Some(Keyword::If)
-    } else if is_same(word, b"case") {
-        Some(Keyword::Case)
-    } else if is_same(word, b"begin") {
-        Some(Keyword::Begin)
-    } else if is_same(word, b"let") {
-        Some(Keyword::Let)
-    } else if is_same(word, b"dup") {
-        Some(Keyword::Dup)
-    } else {
-        None
+    match word {
+        b"if" => Some(Keyword::If),
+        b"case" => Some(Keyword::Case),
+        b"begin" => Some(Keyword::Begin),
+        b"let" => Some(Keyword::Let),
+        b"dup" => Some(Keyword::Dup),
+        _ => None,
     }
 }
 
@@ -73,18 +56,13 @@ fn expression_word(word: &[u8]) -> Option<Keyword>
 fn type_word(word: &[u8]) -> Option<Keyword>
     ensures { result ≡ word_of_type word.now }
 {
-    if is_same(word, b"->") {
-        Some(Keyword::Arrow)
-    } else if is_same(word, b"int") {
-        Some(Keyword::Int)
-    } else if is_same(word, b"bool") {
-        Some(Keyword::Bool)
-    } else if is_same(word, b"sym") {
-        Some(Keyword::Sym)
-    } else if is_same(word, b"unit") {
-        Some(Keyword::Unit)
-    } else {
-        None
+    match word {
+        b"->" => Some(Keyword::Arrow),
+        b"int" => Some(Keyword::Int),
+        b"bool" => Some(Keyword::Bool),
+        b"sym" => Some(Keyword::Sym),
+        b"unit" => Some(Keyword::Unit),
+        _ => None,
     }
 }
 
@@ -92,14 +70,11 @@ fn type_word(word: &[u8]) -> Option<Keyword>
 fn literal_word(word: &[u8]) -> Option<Keyword>
     ensures { result ≡ word_of_literal word.now }
 {
-    if is_same(word, b"true") {
-        Some(Keyword::True)
-    } else if is_same(word, b"false") {
-        Some(Keyword::False)
-    } else if is_same(word, b"_") {
-        Some(Keyword::Wildcard)
-    } else {
-        None
+    match word {
+        b"true" => Some(Keyword::True),
+        b"false" => Some(Keyword::False),
+        b"_" => Some(Keyword::Wildcard),
+        _ => None,
     }
 }
 
@@ -107,14 +82,8 @@ fn literal_word(word: &[u8]) -> Option<Keyword>
 pub(crate) fn keyword_of(word: &[u8]) -> Option<Keyword>
     ensures { result ≡ keyword_spelt word.now }
 {
-    if let Some(k) = definition_word(word) {
-        return Some(k);
-    }
-    if let Some(k) = expression_word(word) {
-        return Some(k);
-    }
-    if let Some(k) = type_word(word) {
-        return Some(k);
-    }
-    literal_word(word)
+    definition_word(word)
+        .or_else(|| expression_word(word))
+        .or_else(|| type_word(word))
+        .or_else(|| literal_word(word))
 }

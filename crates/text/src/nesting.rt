@@ -1,30 +1,17 @@
 // Which brackets are open.
 ghost use Rattle.std.specs.Prelude.{◌≡◌};
 ghost use Rattle.stack.specs.Items.{tops, room_of};
-ghost use Rattle.text.specs.Scans.{same_shape, nesting, Nests};
+ghost use Rattle.text.specs.Scans.{nesting, Nests};
 
 use super::{Bracket, Refusal, TokenKind};
-use stack::{Full, Stack};
-
-fn same_shape(a: Bracket, b: Bracket) -> bool
-    ensures { result ≡ same_shape a b }
-{
-    match (a, b) {
-        (Bracket::Round, Bracket::Round) => true,
-        (Bracket::Square, Bracket::Square) => true,
-        _ => false,
-    }
-}
+use stack::Stack;
 
 fn open_bracket(opened: &mut Stack<'_, Bracket>, shape: Bracket) -> Result<(), Refusal>
     requires { room_of opened.old ≡ 64 }
     ensures nests { Nests (nesting (TokenKind.Open shape) (tops opened.old)) result (tops opened.new) }
     ensures room { room_of opened.new ≡ room_of opened.old }
 {
-    match opened.push(shape) {
-        Ok(()) => Ok(()),
-        Err(Full) => Err(Refusal::Limit),
-    }
+    opened.push(shape).map_err(|_| Refusal::Limit)
 }
 
 fn close_bracket(opened: &mut Stack<'_, Bracket>, shape: Bracket) -> Result<(), Refusal>
@@ -32,14 +19,8 @@ fn close_bracket(opened: &mut Stack<'_, Bracket>, shape: Bracket) -> Result<(), 
     ensures room { room_of opened.new ≡ room_of opened.old }
 {
     match opened.pop() {
-        Some(newest) => {
-            if same_shape(newest, shape) {
-                Ok(())
-            } else {
-                Err(Refusal::Bracket)
-            }
-        }
-        None => Err(Refusal::Bracket),
+        Some(newest) if newest == shape => Ok(()),
+        _ => Err(Refusal::Bracket),
     }
 }
 

@@ -3,7 +3,7 @@ ghost use Rattle.std.specs.Prelude.{◌≡◌};
 ghost use Rattle.text.specs.Refusals.{number_of};
 
 // Each case with its number.
-#[derive(Clone, Copy)]
+#[derive(Clone, Copy, Debug, PartialEq, Eq)]
 pub enum Refusal {
     // a symbol that is not closed, or has a backslash before another byte than ' or a backslash: at its first quote
     Symbol = 1,
@@ -28,7 +28,7 @@ impl Refusal {
 }
 
 // A refusal with its place, the offset from 0 of the byte that it is about.
-#[derive(Clone, Copy)]
+#[derive(Clone, Copy, Debug, PartialEq, Eq)]
 pub struct Refused {
     pub refusal: Refusal,
     pub place: usize,

@@ -19,9 +19,7 @@ fn pass(text: &[u8]) -> Result<usize, Refused>
     let mut count = 0;
     while let Some(token) = reader.next()? {
         let place = token.place;
-        if let Err(refusal) = nest(&mut opened, token.kind) {
-            return Err(Refused { refusal, place });
-        }
+        nest(&mut opened, token.kind).map_err(|refusal| Refused { refusal, place })?;
         count += 1;
     }
     if opened.len() > 0 {

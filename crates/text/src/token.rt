@@ -1,7 +1,7 @@
 // A token: a part of the text, with its place.
 use super::{Bracket, Keyword};
 
-#[derive(Clone, Copy)]
+#[derive(Clone, Copy, Debug, PartialEq, Eq)]
 pub enum TokenKind {
     Open(Bracket),
     Close(Bracket),
@@ -11,7 +11,7 @@ pub enum TokenKind {
     Name,
 }
 
-#[derive(Clone, Copy)]
+#[derive(Clone, Copy, Debug, PartialEq, Eq)]
 pub struct Token<'t> {
     pub kind: TokenKind,
     // The offset of the token's first byte in the text.

@@ -21,10 +21,9 @@ impl<'t> Reader<'t> {
         ensures text { result.text.now ≡ text.now }
         ensures place { result.place ≡ min place (length text.now) }
     {
-        let most = text.len();
         Reader {
             text,
-            place: place.min(most),
+            place: place.min(text.len()),
         }
     }
 
@@ -36,12 +35,12 @@ impl<'t> Reader<'t> {
         let text = self.text;
         let place = self.place + separator_len(&text[self.place..]);
         match front_of(&text[place..]) {
-            Front::Nothing => {
+            Ok(None) => {
                 self.place = place;
                 Ok(None)
             }
-            Front::Refused(refusal) => Err(Refused { refusal, place }),
-            Front::Token(kind, size) => {
+            Err(refusal) => Err(Refused { refusal, place }),
+            Ok(Some(Front { kind, size })) => {
                 let end = place + size;
                 self.place = end;
                 Ok(Some(Token {

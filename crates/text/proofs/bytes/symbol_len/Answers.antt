@@ -1,9 +1,6 @@
-use Rattle.std.proofs.Common.{sym, ap, ◌∙◌, arith}
-use Rattle.text.proofs.Runs.{further, broken_stop, plain_step, escaped_step}
+use Rattle.std.proofs.Common.{arith}
+use Rattle.text.proofs.Runs.{plain_step, escaped_step}
 use Rattle.text.proofs.bytes.symbol_len.Goals as goal
-
-pub returns-in-Broken : goal.returns-in-Broken
-returns-in-Broken c = record { value = sym (ap (further c.loop-n.n) (broken_stop c.args.s.now c.loop-n.n c.in-Broken.ensures)) ∙ c.loop-n.invariant.1; within = tt }
 
 pub loop-n-preserved-in-Escape : goal.loop-n-preserved-in-Escape
 loop-n-preserved-in-Escape c = let p = escaped_step c.args.s.now c.loop-n.n c.in-Escape.ensures in let step = p.1 in (omega arith, cc)

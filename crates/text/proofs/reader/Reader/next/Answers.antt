@@ -8,35 +8,37 @@ use Rattle.text.proofs.GrammarTokens.{front_spelt}
 use Rattle.text.proofs.TokenLaws.{next_is, next_end, token_some}
 use Rattle.text.proofs.reader.Reader.next.Goals as goal
 
-pub returns-in-Nothing : goal.returns-in-Nothing
-returns-in-Nothing c =
+pub returns-in-Ok-None-clause-reads : goal.returns-in-Ok-None-clause-reads
+returns-in-Ok-None-clause-reads c =
     let s = c.args.self.now.text.now in
     let i = c.args.self.now.place in
     let n = c.separator_len.result in
     let run = c.separator_len.ensures.value in
-    let ended = next_end s i n run c.in-Nothing.ensures.value in
+    let none = rw c.in-Ok-None.field-0-is at c.in-Ok-None.ensures.value in
+    let ended = next_end s i n run none in
     let most = c.separator_len.ensures.within in
     let rest = ap length (take_rest s i) in
     let size = length-drop i s in
-    record { reads = (next_is s i n run _ c.in-Nothing.ensures.value, omega arith); text = refl }
+    (next_is s i n run _ none, omega arith)
 
-pub returns-in-Refused : goal.returns-in-Refused
-returns-in-Refused c =
+pub returns-in-Err-clause-reads : goal.returns-in-Err-clause-reads
+returns-in-Err-clause-reads c =
     let s = c.args.self.now.text.now in
     let i = c.args.self.now.place in
     let j = i + c.separator_len.result in
-    let here : lexed_from s i ≡ fault c.in-Refused.refusal j = next_is s i _ c.separator_len.ensures.value _ c.in-Refused.ensures.value in
-    record { reads = (cc, refl); text = refl }
+    let here : lexed_from s i ≡ fault c.in-Err.refusal j = next_is s i _ c.separator_len.ensures.value _ c.in-Err.ensures.value in
+    (cc, refl)
 
-pub returns-in-Token : goal.returns-in-Token
-returns-in-Token c =
+pub returns-in-Ok-Some-clause-reads : goal.returns-in-Ok-Some-clause-reads
+returns-in-Ok-Some-clause-reads c =
     let s = c.args.self.now.text.now in
     let i = c.args.self.now.place in
     let j = i + c.separator_len.result in
-    let n = c.in-Token.size in
-    let k = c.in-Token.kind in
+    let k = c.in-Ok-Some.field-0-0.kind in
+    let n = c.in-Ok-Some.field-0-0.size in
     let x = drop j s in
-    let front = sym (c.in-Token.ensures.value ∙ ap text_front (take_rest s j)) in
+    let is = rw c.in-Ok-Some.field-0-is at c.in-Ok-Some.ensures.value in
+    let front = sym (is ∙ ap text_front (take_rest s j)) in
     let some = token_some x k n front in
     let sp = front_spelt x k n front in
     let inside = sp.2 in
@@ -44,19 +46,16 @@ returns-in-Token c =
     let same : n ≡ j + n - j = omega arith in
     let long : length (take (j + n - j) x) ≡ n = ap (λ m. length (take m x)) (sym same) ∙ length-take-le n x inside in
     let here : lexed_from s i ≡ also (lexeme k j (take (j + n - j) x)) (lexed_from s (j + n)) =
-    next_is s i _ c.separator_len.ensures.value _ c.in-Token.ensures.value
+    next_is s i _ c.separator_len.ensures.value _ is
     ∙ ap (λ m. also (lexeme k j (take m x)) (lexed 0 (j + n) (drop n x))) same
     ∙ ap (λ t. also (lexeme k j (take (j + n - j) x)) (lexed 0 (j + n) t)) (drop-drop n j s) in
     record {
-      reads = record {
-        follows = cc;
-        forward = (omega arith, omega arith);
-        within = omega arith;
-        ends = ap (λ m. j + m) (sym long);
-        part = ap (λ m. take m x) (sym same ∙ sym long);
-        spelt = subst (λ m. Spelt k (take m x)) same sp.0;
-        edges = subst (λ m. Unblank (take m x)) same (spelt_edges k (take n x) sp.0);
-        whole = subst (Whole k) (drop-drop n j s) sp.1;
-      };
-      text = refl;
+      follows = cc;
+      forward = (omega arith, omega arith);
+      within = omega arith;
+      ends = ap (λ m. j + m) (sym long);
+      part = ap (λ m. take m x) (sym same ∙ sym long);
+      spelt = subst (λ m. Spelt k (take m x)) same sp.0;
+      edges = subst (λ m. Unblank (take m x)) same (spelt_edges k (take n x) sp.0);
+      whole = subst (Whole k) (drop-drop n j s) sp.1;
     }
