@@ -1,7 +1,8 @@
 -- The number of each function of the basis, and the function with a number.
-use Rattle.std.specs.Prelude.{ℕ, List, [], ◌∷◌, ◌++◌, Option}
+use Rattle.std.specs.Prelude.{◌≡◌, ℕ, ◌≤◌, List, [], ◌∷◌, ◌++◌, Some, None, Option, Result, MatchResult}
 use Rattle.std.specs.List.{slice_get}
 use Rattle.basis.specs.declared.function.Basis.{Basis}
+use Rattle.basis.specs.declared.function.UnknownFunction.{UnknownFunction}
 use Rattle.basis.specs.declared.function.Basis.TheVariants.{EqualInt, EqualBool, EqualSym, EqualUnit, Add, Subtract, Multiply, Divide, Remainder, UnsignedDivide, UnsignedRemainder, Negate, Greater, Less, GreaterOrEqual, LessOrEqual, Not, And, Or, Xor, BitAnd, BitOr, BitXor, ShiftLeft, ShiftRight, Complement, PrintInt, PrintBool, PrintSym, PrintUnit, PrintNewline, PrintAscii, Input}
 
 abbrev pub number_of : Basis → ℕ
@@ -70,3 +71,7 @@ every_function = equalities ++ (arithmetic ++ (comparisons ++ (logic ++ (bitwise
 -- the function with this number, none from 33 on
 abbrev pub numbered : ℕ → Option Basis
 numbered n = slice_get every_function n
+
+-- the function with this number, which has it; an error with the number exactly from 33 on
+abbrev pub FromNumber : ℕ → Result Basis UnknownFunction → Type 0
+FromNumber n r = MatchResult r (λ b. (numbered n ≡ Some b) × (number_of b ≡ n)) (λ e. (numbered n ≡ None) × (e.0 ≡ n) × (33 ≤ n))

@@ -1,7 +1,7 @@
 // What a call of a function of the basis comes to.
 use super::{ArithmeticFault, Print};
 
-#[derive(Clone, Copy)]
+#[derive(Clone, Copy, PartialEq, Eq)]
 pub enum Applied {
     // the result
     Int(i32),

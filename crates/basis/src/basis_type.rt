@@ -1,5 +1,5 @@
 // The types of the parameters and results of the basis.
-#[derive(Clone, Copy)]
+#[derive(Clone, Copy, PartialEq, Eq)]
 pub enum BasisType {
     Int,
     Bool,

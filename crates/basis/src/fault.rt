@@ -3,7 +3,7 @@ ghost use Rattle.std.specs.Prelude.{◌≡◌};
 ghost use Rattle.basis.specs.Faults.{fault_number};
 
 // Each case with its number.
-#[derive(Clone, Copy)]
+#[derive(Clone, Copy, PartialEq, Eq)]
 pub enum ArithmeticFault {
     // a division or a remainder by 0
     ZeroDivisor = 32,

@@ -1,8 +1,8 @@
 // The 33 functions of the initial basis, each with its number.
-ghost use Rattle.std.specs.Prelude.{◌≡◌, ◌≤◌, Some, MatchOption};
-ghost use Rattle.basis.specs.Numbers.{number_of, numbered};
+ghost use Rattle.std.specs.Prelude.{◌≡◌, Some};
+ghost use Rattle.basis.specs.Numbers.{number_of, numbered, FromNumber};
 
-#[derive(Clone, Copy)]
+#[derive(Clone, Copy, PartialEq, Eq)]
 pub enum Basis {
     EqualInt = 0,
     EqualBool = 1,
@@ -46,56 +46,54 @@ impl Basis {
     {
         self as u32
     }
+}
 
-    // The function with this number.
-    pub fn from_number(n: u32) -> Option<Basis>
-        ensures value { result ≡ numbered n }
-        ensures back { MatchOption result (33 ≤ n) (λ b. number_of b ≡ n) }
-    {
-        match n {
-            0 => Some(Basis::EqualInt),
-            1 => Some(Basis::EqualBool),
-            2 => Some(Basis::EqualSym),
-            3 => Some(Basis::EqualUnit),
-            4 => Some(Basis::Add),
-            5 => Some(Basis::Subtract),
-            6 => Some(Basis::Multiply),
-            7 => Some(Basis::Divide),
-            8 => Some(Basis::Remainder),
-            9 => Some(Basis::UnsignedDivide),
-            10 => Some(Basis::UnsignedRemainder),
-            11 => Some(Basis::Negate),
-            12 => Some(Basis::Greater),
-            13 => Some(Basis::Less),
-            14 => Some(Basis::GreaterOrEqual),
-            15 => Some(Basis::LessOrEqual),
-            _ => Basis::from_sixteen_on(n),
-        }
-    }
+// A number that no function has.
+#[derive(Clone, Copy, PartialEq, Eq)]
+pub struct UnknownFunction(pub u32);
 
-    // The same for the numbers from 16 on: one `match` on 33 numbers is more than the check takes.
-    fn from_sixteen_on(n: u32) -> Option<Basis>
-        ensures { 16 ≤ n → (result ≡ numbered n) × MatchOption result (33 ≤ n) (λ b. number_of b ≡ n) }
-    {
+// The function with this number.
+impl TryFrom<u32> for Basis {
+    type Error = UnknownFunction;
+
+    ghost try_from_gives = { FromNumber };
+
+    fn try_from(n: u32) -> Result<Self, UnknownFunction> {
         match n {
-            16 => Some(Basis::Not),
-            17 => Some(Basis::And),
-            18 => Some(Basis::Or),
-            19 => Some(Basis::Xor),
-            20 => Some(Basis::BitAnd),
-            21 => Some(Basis::BitOr),
-            22 => Some(Basis::BitXor),
-            23 => Some(Basis::ShiftLeft),
-            24 => Some(Basis::ShiftRight),
-            25 => Some(Basis::Complement),
-            26 => Some(Basis::PrintInt),
-            27 => Some(Basis::PrintBool),
-            28 => Some(Basis::PrintSym),
-            29 => Some(Basis::PrintUnit),
-            30 => Some(Basis::PrintNewline),
-            31 => Some(Basis::PrintAscii),
-            32 => Some(Basis::Input),
-            _ => None,
+            0 => Ok(Basis::EqualInt),
+            1 => Ok(Basis::EqualBool),
+            2 => Ok(Basis::EqualSym),
+            3 => Ok(Basis::EqualUnit),
+            4 => Ok(Basis::Add),
+            5 => Ok(Basis::Subtract),
+            6 => Ok(Basis::Multiply),
+            7 => Ok(Basis::Divide),
+            8 => Ok(Basis::Remainder),
+            9 => Ok(Basis::UnsignedDivide),
+            10 => Ok(Basis::UnsignedRemainder),
+            11 => Ok(Basis::Negate),
+            12 => Ok(Basis::Greater),
+            13 => Ok(Basis::Less),
+            14 => Ok(Basis::GreaterOrEqual),
+            15 => Ok(Basis::LessOrEqual),
+            16 => Ok(Basis::Not),
+            17 => Ok(Basis::And),
+            18 => Ok(Basis::Or),
+            19 => Ok(Basis::Xor),
+            20 => Ok(Basis::BitAnd),
+            21 => Ok(Basis::BitOr),
+            22 => Ok(Basis::BitXor),
+            23 => Ok(Basis::ShiftLeft),
+            24 => Ok(Basis::ShiftRight),
+            25 => Ok(Basis::Complement),
+            26 => Ok(Basis::PrintInt),
+            27 => Ok(Basis::PrintBool),
+            28 => Ok(Basis::PrintSym),
+            29 => Ok(Basis::PrintUnit),
+            30 => Ok(Basis::PrintNewline),
+            31 => Ok(Basis::PrintAscii),
+            32 => Ok(Basis::Input),
+            33.. => Err(UnknownFunction(n)),
         }
     }
 }

@@ -23,7 +23,7 @@ pub use basis_type::BasisType;
 pub use calls::{apply_none, apply_one, apply_two};
 pub use decimal::{decimal_len, write_decimal};
 pub use fault::ArithmeticFault;
-pub use function::Basis;
+pub use function::{Basis, UnknownFunction};
 pub use naming::{find, name_in, name_of, names, span_of};
 pub use parameters::Parameters;
 pub use plain::Plain;

@@ -1,7 +1,7 @@
 // The parameters of a function of the basis, by their types.
 use super::BasisType;
 
-#[derive(Clone, Copy)]
+#[derive(Clone, Copy, PartialEq, Eq)]
 pub enum Parameters {
     Zero,
     One(BasisType),

@@ -1,5 +1,5 @@
 // A value that a function of the basis takes: everything but functions and data.
-#[derive(Clone, Copy)]
+#[derive(Clone, Copy, PartialEq, Eq)]
 pub enum Plain {
     Int(i32),
     Bool(bool),

@@ -1,5 +1,5 @@
 // What a function of the basis prints.
-#[derive(Clone, Copy)]
+#[derive(Clone, Copy, PartialEq, Eq)]
 pub enum Print {
     Int(i32),
     Bool(bool),

@@ -1,5 +1,5 @@
 // A part of a slice, by its places.
-#[derive(Clone, Copy)]
+#[derive(Clone, Copy, PartialEq, Eq)]
 pub struct Span {
     // the place of the first byte, from 0
     pub from: usize,
