@@ -1,16 +1,16 @@
 -- The look-up of a name finds exactly the function that has it.
-use Rattle.std.proofs.Common.{◌≡◌, ℕ, Bool, true, false, cond, List, [], ◌∷◌, ◌++◌, Some, None, Option, sym, refl, ap, ◌∙◌, arith, MatchOption}
+use Rattle.std.proofs.Common.{◌≡◌, ℕ, Bool, true, false, cond, List, [], ◌∷◌, ◌++◌, Some, None, Option, sym, refl, ap, ◌∙◌, MatchOption}
 use Rattle.std.proofs.lemmas.Slice.Eq.{bytes_eq-Decides}
 use Rattle.std.specs.Str.{bytes_eq}
 use Rattle.basis.specs.Names.{name_of, first_named, named}
-use Rattle.basis.specs.Numbers.{equalities, arithmetic, comparisons, logic, bitwise, exchange, every_function}
+use Rattle.basis.specs.Numbers.{every_function}
 use Rattle.basis.specs.declared.function.Basis.{Basis}
 use Rattle.basis.specs.declared.function.Basis.TheVariants.{EqualInt, EqualBool, EqualSym, EqualUnit, Add, Subtract, Multiply, Divide, Remainder, UnsignedDivide, UnsignedRemainder, Negate, Greater, Less, GreaterOrEqual, LessOrEqual, Not, And, Or, Xor, BitAnd, BitOr, BitXor, ShiftLeft, ShiftRight, Complement, PrintInt, PrintBool, PrintSym, PrintUnit, PrintNewline, PrintAscii, Input}
 
 module _ (word : List ℕ) where
   -- a name that is found in the first of two lists
-  pub here : (bs cs : List Basis) (b : Basis) → Some b ≡ first_named word bs → Some b ≡ first_named word (bs ++ cs)
-  here [] cs b e = let z : ◌≡◌ {A = ℕ} 0 1 = cc in absurd (omega arith)
+  here : (bs cs : List Basis) (b : Basis) → Some b ≡ first_named word bs → Some b ≡ first_named word (bs ++ cs)
+  here [] cs b e = (cc)
   here (x ∷ bs) cs b e = by (bytes_eq word (name_of x)) (here bs cs b) e
     where
       by : (t : Bool) → (Some b ≡ first_named word bs → Some b ≡ first_named word (bs ++ cs))
@@ -19,18 +19,18 @@ module _ (word : List ℕ) where
       by false more e = more e
 
   -- a name that is not found there
-  pub later : (bs cs : List Basis) → None ≡ first_named word bs → first_named word cs ≡ first_named word (bs ++ cs)
+  later : (bs cs : List Basis) → None ≡ first_named word bs → first_named word cs ≡ first_named word (bs ++ cs)
   later [] cs e = refl
   later (x ∷ bs) cs e = by (bytes_eq word (name_of x)) (later bs cs) e
     where
       by : (t : Bool) → (None ≡ first_named word bs → first_named word cs ≡ first_named word (bs ++ cs))
           → None ≡ cond t (Some x) (first_named word bs) → first_named word cs ≡ cond t (Some x) (first_named word (bs ++ cs))
-      by true more e = let z : ◌≡◌ {A = ℕ} 0 1 = cc in absurd (omega arith)
+      by true more e = (cc)
       by false more e = more e
 
   -- what is found has that name
   sound : (bs : List Basis) (b : Basis) → Some b ≡ first_named word bs → name_of b ≡ word
-  sound [] b e = let z : ◌≡◌ {A = ℕ} 0 1 = cc in absurd (omega arith)
+  sound [] b e = (cc)
   sound (x ∷ bs) b e = by (bytes_eq word (name_of x)) refl (sound bs b) e
     where
       by : (t : Bool) → bytes_eq word (name_of x) ≡ t → (Some b ≡ first_named word bs → name_of b ≡ word)
@@ -38,14 +38,10 @@ module _ (word : List ℕ) where
       by true p more e = let same : b ≡ x = cc in ap name_of same ∙ sym ((bytes_eq-Decides word (name_of x)).0 p)
       by false p more e = more e
 
-  pub after_equalities : None ≡ first_named word equalities → first_named word (arithmetic ++ (comparisons ++ (logic ++ (bitwise ++ exchange)))) ≡ named word
-  after_equalities e = later equalities (arithmetic ++ (comparisons ++ (logic ++ (bitwise ++ exchange)))) e
-
-  pub after_arithmetic : None ≡ first_named word equalities → None ≡ first_named word arithmetic → first_named word (comparisons ++ (logic ++ (bitwise ++ exchange))) ≡ named word
-  after_arithmetic e f = later arithmetic (comparisons ++ (logic ++ (bitwise ++ exchange))) f ∙ after_equalities e
-
-  pub after_comparisons : None ≡ first_named word equalities → None ≡ first_named word arithmetic → None ≡ first_named word comparisons → first_named word (logic ++ (bitwise ++ exchange)) ≡ named word
-  after_comparisons e f g = later comparisons (logic ++ (bitwise ++ exchange)) g ∙ after_arithmetic e f
+  -- what is found in one list, or else in another, is what is found in both
+  pub either : {P : Type 0} (bs cs : List Basis) (a r : Option Basis) → a ≡ first_named word bs → (P → r ≡ first_named word cs) → MatchOption a P (λ b. r ≡ Some b) → r ≡ first_named word (bs ++ cs)
+  either bs cs None r e f m = f m ∙ later bs cs e
+  either bs cs (Some b) r e f m = m ∙ here bs cs b e
 
 -- every function is found by its name, so no two have one name
 pub by_name : (b : Basis) → named (name_of b) ≡ Some b
@@ -84,5 +80,5 @@ by_name PrintAscii = refl
 by_name Input = refl
 
 pub exact : (word : List ℕ) (r : Option Basis) → r ≡ named word → MatchOption r ((b : Basis) → name_of b ≡ word → ⊥) (λ b. name_of b ≡ word)
-exact word None e = λ b h. let f = by_name b in let g = ap named h in let z : ◌≡◌ {A = ℕ} 0 1 = cc in omega arith
+exact word None e = λ b h. let f = by_name b in let g = ap named h in (cc)
 exact word (Some b) e = sound word every_function b e

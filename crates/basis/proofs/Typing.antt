@@ -1,5 +1,5 @@
 -- Every function of the basis meets its type.
-use Rattle.std.proofs.Common.{◌≡◌, ℕ, ◌⊎◌, List, [], ◌∷◌, map, ℤ, Ok, Err, Result, sym, refl, ap, ◌∙◌, subst, inl, inr, ⊎_elim, arith}
+use Rattle.std.proofs.Common.{◌≡◌, ◌⊎◌, List, [], ◌∷◌, map, ℤ, Ok, Err, Result, sym, refl, ap, ◌∙◌, subst, inl, inr, ⊎_elim}
 use mathlib.Core.Bool as bool
 use Rattle.basis.specs.Arithmetic.{quotient, remainder_of, unsigned_quotient, unsigned_remainder_of, left_shift, right_shift}
 use Rattle.basis.specs.Calls.{answer, as_int, as_bool, as_sym, as_unit, none, one, two, applied}
@@ -24,29 +24,29 @@ Takes {X} use' t = (v : Plain)
 
 takes_int : Takes as_int type.Int
 takes_int (plain.Int n) = inl (n, refl, λ f. refl)
-takes_int (plain.Bool b) = inr (λ e. let z : ◌≡◌ {A = ℕ} 0 1 = cc in omega arith, λ f. refl)
-takes_int (plain.Sym n) = inr (λ e. let z : ◌≡◌ {A = ℕ} 0 1 = cc in omega arith, λ f. refl)
-takes_int plain.Unit = inr (λ e. let z : ◌≡◌ {A = ℕ} 0 1 = cc in omega arith, λ f. refl)
+takes_int (plain.Bool b) = inr (λ e. (cc), λ f. refl)
+takes_int (plain.Sym n) = inr (λ e. (cc), λ f. refl)
+takes_int plain.Unit = inr (λ e. (cc), λ f. refl)
 
 takes_bool : Takes as_bool type.Bool
-takes_bool (plain.Int n) = inr (λ e. let z : ◌≡◌ {A = ℕ} 0 1 = cc in omega arith, λ f. refl)
+takes_bool (plain.Int n) = inr (λ e. (cc), λ f. refl)
 takes_bool (plain.Bool b) = inl (b, refl, λ f. refl)
-takes_bool (plain.Sym n) = inr (λ e. let z : ◌≡◌ {A = ℕ} 0 1 = cc in omega arith, λ f. refl)
-takes_bool plain.Unit = inr (λ e. let z : ◌≡◌ {A = ℕ} 0 1 = cc in omega arith, λ f. refl)
+takes_bool (plain.Sym n) = inr (λ e. (cc), λ f. refl)
+takes_bool plain.Unit = inr (λ e. (cc), λ f. refl)
 
 takes_sym : Takes as_sym type.Sym
-takes_sym (plain.Int n) = inr (λ e. let z : ◌≡◌ {A = ℕ} 0 1 = cc in omega arith, λ f. refl)
-takes_sym (plain.Bool b) = inr (λ e. let z : ◌≡◌ {A = ℕ} 0 1 = cc in omega arith, λ f. refl)
+takes_sym (plain.Int n) = inr (λ e. (cc), λ f. refl)
+takes_sym (plain.Bool b) = inr (λ e. (cc), λ f. refl)
 takes_sym (plain.Sym n) = inl (n, refl, λ f. refl)
-takes_sym plain.Unit = inr (λ e. let z : ◌≡◌ {A = ℕ} 0 1 = cc in omega arith, λ f. refl)
+takes_sym plain.Unit = inr (λ e. (cc), λ f. refl)
 
 abbrev of_unit : Plain → (Unit {0} → Applied) → Applied
 of_unit v f = as_unit v (f tt)
 
 takes_unit : Takes of_unit type.Unit
-takes_unit (plain.Int n) = inr (λ e. let z : ◌≡◌ {A = ℕ} 0 1 = cc in omega arith, λ f. refl)
-takes_unit (plain.Bool b) = inr (λ e. let z : ◌≡◌ {A = ℕ} 0 1 = cc in omega arith, λ f. refl)
-takes_unit (plain.Sym n) = inr (λ e. let z : ◌≡◌ {A = ℕ} 0 1 = cc in omega arith, λ f. refl)
+takes_unit (plain.Int n) = inr (λ e. (cc), λ f. refl)
+takes_unit (plain.Bool b) = inr (λ e. (cc), λ f. refl)
+takes_unit (plain.Sym n) = inr (λ e. (cc), λ f. refl)
 takes_unit plain.Unit = inl (tt, refl, λ f. refl)
 
 -- with the arguments' types ts, a call gives a result of the type t
@@ -55,20 +55,20 @@ Meets ts t s a = (map type_of s ≡ ts → Gives t a) × ((map type_of s ≡ ts 
 
 meets_none : (t : BasisType) (a : Applied) → Gives t a → (s : List Plain) → Meets [] t s (none s a)
 meets_none t a g [] = (λ _. g, λ h. absurd (h refl))
-meets_none t a g (v ∷ s) = (λ e. let z : ◌≡◌ {A = ℕ} 0 1 = cc in absurd (omega arith), λ _. refl)
+meets_none t a g (v ∷ s) = (λ e. (cc), λ _. refl)
 
 module _ {X : Type 0} (use' : Plain → (X → Applied) → Applied) (u : BasisType) (takes : Takes use' u) (t : BasisType) where
   meets_one : (f : X → Applied) → ((x : X) → Gives t (f x)) → (s : List Plain) → Meets (u ∷ []) t s (one s (λ v. use' v f))
-  meets_one f g [] = (λ e. let z : ◌≡◌ {A = ℕ} 0 1 = cc in absurd (omega arith), λ _. refl)
+  meets_one f g [] = (λ e. (cc), λ _. refl)
   meets_one f g (v ∷ []) = ⊎_elim
       (λ k. (λ _. subst (Gives t) (sym (k.2 f)) (g k.0), λ h. absurd (h (ap (λ w. w ∷ []) k.1))))
       (λ k. (λ e. let same : type_of v ≡ u = cc in absurd (k.0 same), λ _. k.1 f))
       (takes v)
-  meets_one f g (v ∷ w ∷ s) = (λ e. let z : ◌≡◌ {A = ℕ} 0 1 = cc in absurd (omega arith), λ _. refl)
+  meets_one f g (v ∷ w ∷ s) = (λ e. (cc), λ _. refl)
 
   meets_two : (f : X → X → Applied) → ((x y : X) → Gives t (f x y)) → (s : List Plain) → Meets (u ∷ u ∷ []) t s (two s (λ v w. use' v (λ a. use' w (λ b. f a b))))
-  meets_two f g [] = (λ e. let z : ◌≡◌ {A = ℕ} 0 1 = cc in absurd (omega arith), λ _. refl)
-  meets_two f g (v ∷ []) = (λ e. let z : ◌≡◌ {A = ℕ} 0 1 = cc in absurd (omega arith), λ _. refl)
+  meets_two f g [] = (λ e. (cc), λ _. refl)
+  meets_two f g (v ∷ []) = (λ e. (cc), λ _. refl)
   meets_two f g (v ∷ w ∷ []) = ⊎_elim
       (λ k. ⊎_elim
       (λ l. (
@@ -79,7 +79,7 @@ module _ {X : Type 0} (use' : Plain → (X → Applied) → Applied) (u : BasisT
       (takes w))
       (λ k. (λ e. let same : type_of v ≡ u = cc in absurd (k.0 same), λ _. k.1 (λ a. use' w (λ b. f a b))))
       (takes v)
-  meets_two f g (v ∷ w ∷ x ∷ s) = (λ e. let z : ◌≡◌ {A = ℕ} 0 1 = cc in absurd (omega arith), λ _. refl)
+  meets_two f g (v ∷ w ∷ x ∷ s) = (λ e. (cc), λ _. refl)
 
 answers : (r : Result ℤ ArithmeticFault) → Gives type.Int (answer r)
 answers (Ok n) = refl

@@ -1,8 +1,7 @@
 // The calls of the basis: a function on its arguments. A run makes these by the hundred million, so nothing here loops or looks
 // anything up.
 ghost use Rattle.std.specs.Prelude.{◌≡◌, [], ◌∷◌};
-ghost use Rattle.basis.specs.Calls.{applied, low_byte};
-ghost use Rattle.basis.specs.Calls.{answer as answer_of};
+ghost use Rattle.basis.specs.Calls.{answer, applied, low_byte};
 ghost use Rattle.basis.specs.declared.plain.Plain.TheVariants.{Int, Bool, Sym, Unit};
 
 use super::arithmetic::{
@@ -11,12 +10,15 @@ use super::arithmetic::{
 };
 use super::{Applied, ArithmeticFault, Basis, Plain, Print};
 
-fn answer(res: Result<i32, ArithmeticFault>) -> Applied
-    ensures { result ≡ answer_of res }
-{
-    match res {
-        Ok(n) => Applied::Int(n),
-        Err(fault) => Applied::Faults(fault),
+// The result of the arithmetic, or its fault.
+impl From<Result<i32, ArithmeticFault>> for Applied {
+    ghost from_gives = { λ res applied. applied ≡ answer res };
+
+    fn from(res: Result<i32, ArithmeticFault>) -> Applied {
+        match res {
+            Ok(n) => Applied::Int(n),
+            Err(fault) => Applied::Faults(fault),
+        }
     }
 }
 
@@ -35,10 +37,10 @@ fn on_ints(basis: Basis, a: i32, b: i32) -> Applied
         Basis::Add => Applied::Int(add(a, b)),
         Basis::Subtract => Applied::Int(subtract(a, b)),
         Basis::Multiply => Applied::Int(multiply(a, b)),
-        Basis::Divide => answer(divide(a, b)),
-        Basis::Remainder => answer(remainder(a, b)),
-        Basis::UnsignedDivide => answer(unsigned_divide(a, b)),
-        Basis::UnsignedRemainder => answer(unsigned_remainder(a, b)),
+        Basis::Divide => divide(a, b).into(),
+        Basis::Remainder => remainder(a, b).into(),
+        Basis::UnsignedDivide => unsigned_divide(a, b).into(),
+        Basis::UnsignedRemainder => unsigned_remainder(a, b).into(),
         Basis::Greater => Applied::Bool(a > b),
         Basis::Less => Applied::Bool(a < b),
         Basis::GreaterOrEqual => Applied::Bool(a >= b),
@@ -46,8 +48,8 @@ fn on_ints(basis: Basis, a: i32, b: i32) -> Applied
         Basis::BitAnd => Applied::Int(bit_and(a, b)),
         Basis::BitOr => Applied::Int(bit_or(a, b)),
         Basis::BitXor => Applied::Int(bit_xor(a, b)),
-        Basis::ShiftLeft => answer(shift_left(a, b)),
-        Basis::ShiftRight => answer(shift_right(a, b)),
+        Basis::ShiftLeft => shift_left(a, b).into(),
+        Basis::ShiftRight => shift_right(a, b).into(),
         _ => Applied::Mismatch,
     }
 }

@@ -63,13 +63,7 @@ pub fn name_in(names: &[u8], basis: Basis) -> &[u8]
     ensures { result.now ≡ part_of (span_of basis) names.now }
 {
     let span = span_of(basis);
-    let from = span.from;
-    let to = span.to;
-    if to <= names.len() {
-        &names[from..to]
-    } else {
-        &[]
-    }
+    names.get(span.from..span.to).unwrap_or(&[])
 }
 
 // The function's name, a part of the list of all names.
@@ -80,26 +74,16 @@ pub fn name_of(basis: Basis) -> &'static [u8]
     name_in(names(), basis)
 }
 
-fn is_same(a: &[u8], b: &[u8]) -> bool
-    ensures { result ≡ bytes_eq a.now b.now }
-{
-    a == b
-}
-
 // Among the functions that tell whether two values are equal.
 fn equality_named(word: &[u8]) -> Option<Basis>
     ensures { result ≡ first_named word.now equalities }
 {
-    if is_same(word, b"=i") {
-        Some(Basis::EqualInt)
-    } else if is_same(word, b"=b") {
-        Some(Basis::EqualBool)
-    } else if is_same(word, b"=s") {
-        Some(Basis::EqualSym)
-    } else if is_same(word, b"=u") {
-        Some(Basis::EqualUnit)
-    } else {
-        None
+    match word {
+        b"=i" => Some(Basis::EqualInt),
+        b"=b" => Some(Basis::EqualBool),
+        b"=s" => Some(Basis::EqualSym),
+        b"=u" => Some(Basis::EqualUnit),
+        _ => None,
     }
 }
 
@@ -107,24 +91,16 @@ fn equality_named(word: &[u8]) -> Option<Basis>
 fn arithmetic_named(word: &[u8]) -> Option<Basis>
     ensures { result ≡ first_named word.now arithmetic }
 {
-    if is_same(word, b"+") {
-        Some(Basis::Add)
-    } else if is_same(word, b"-") {
-        Some(Basis::Subtract)
-    } else if is_same(word, b"*") {
-        Some(Basis::Multiply)
-    } else if is_same(word, b"/") {
-        Some(Basis::Divide)
-    } else if is_same(word, b"%") {
-        Some(Basis::Remainder)
-    } else if is_same(word, b"udiv") {
-        Some(Basis::UnsignedDivide)
-    } else if is_same(word, b"umod") {
-        Some(Basis::UnsignedRemainder)
-    } else if is_same(word, b"neg") {
-        Some(Basis::Negate)
-    } else {
-        None
+    match word {
+        b"+" => Some(Basis::Add),
+        b"-" => Some(Basis::Subtract),
+        b"*" => Some(Basis::Multiply),
+        b"/" => Some(Basis::Divide),
+        b"%" => Some(Basis::Remainder),
+        b"udiv" => Some(Basis::UnsignedDivide),
+        b"umod" => Some(Basis::UnsignedRemainder),
+        b"neg" => Some(Basis::Negate),
+        _ => None,
     }
 }
 
@@ -132,16 +108,12 @@ fn arithmetic_named(word: &[u8]) -> Option<Basis>
 fn comparison_named(word: &[u8]) -> Option<Basis>
     ensures { result ≡ first_named word.now comparisons }
 {
-    if is_same(word, b">") {
-        Some(Basis::Greater)
-    } else if is_same(word, b"<") {
-        Some(Basis::Less)
-    } else if is_same(word, b">=") {
-        Some(Basis::GreaterOrEqual)
-    } else if is_same(word, b"<=") {
-        Some(Basis::LessOrEqual)
-    } else {
-        None
+    match word {
+        b">" => Some(Basis::Greater),
+        b"<" => Some(Basis::Less),
+        b">=" => Some(Basis::GreaterOrEqual),
+        b"<=" => Some(Basis::LessOrEqual),
+        _ => None,
     }
 }
 
@@ -149,16 +121,12 @@ fn comparison_named(word: &[u8]) -> Option<Basis>
 fn logic_named(word: &[u8]) -> Option<Basis>
     ensures { result ≡ first_named word.now logic }
 {
-    if is_same(word, b"not") {
-        Some(Basis::Not)
-    } else if is_same(word, b"and") {
-        Some(Basis::And)
-    } else if is_same(word, b"or") {
-        Some(Basis::Or)
-    } else if is_same(word, b"xor") {
-        Some(Basis::Xor)
-    } else {
-        None
+    match word {
+        b"not" => Some(Basis::Not),
+        b"and" => Some(Basis::And),
+        b"or" => Some(Basis::Or),
+        b"xor" => Some(Basis::Xor),
+        _ => None,
     }
 }
 
@@ -166,20 +134,14 @@ fn logic_named(word: &[u8]) -> Option<Basis>
 fn bitwise_named(word: &[u8]) -> Option<Basis>
     ensures { result ≡ first_named word.now bitwise }
 {
-    if is_same(word, b"&") {
-        Some(Basis::BitAnd)
-    } else if is_same(word, b"|") {
-        Some(Basis::BitOr)
-    } else if is_same(word, b"^") {
-        Some(Basis::BitXor)
-    } else if is_same(word, b"<<") {
-        Some(Basis::ShiftLeft)
-    } else if is_same(word, b">>") {
-        Some(Basis::ShiftRight)
-    } else if is_same(word, b"~") {
-        Some(Basis::Complement)
-    } else {
-        None
+    match word {
+        b"&" => Some(Basis::BitAnd),
+        b"|" => Some(Basis::BitOr),
+        b"^" => Some(Basis::BitXor),
+        b"<<" => Some(Basis::ShiftLeft),
+        b">>" => Some(Basis::ShiftRight),
+        b"~" => Some(Basis::Complement),
+        _ => None,
     }
 }
 
@@ -187,22 +149,15 @@ fn bitwise_named(word: &[u8]) -> Option<Basis>
 fn exchange_named(word: &[u8]) -> Option<Basis>
     ensures { result ≡ first_named word.now exchange }
 {
-    if is_same(word, b"print-int") {
-        Some(Basis::PrintInt)
-    } else if is_same(word, b"print-bool") {
-        Some(Basis::PrintBool)
-    } else if is_same(word, b"print-sym") {
-        Some(Basis::PrintSym)
-    } else if is_same(word, b"print-unit") {
-        Some(Basis::PrintUnit)
-    } else if is_same(word, b"print-newline") {
-        Some(Basis::PrintNewline)
-    } else if is_same(word, b"print-ascii") {
-        Some(Basis::PrintAscii)
-    } else if is_same(word, b"in") {
-        Some(Basis::Input)
-    } else {
-        None
+    match word {
+        b"print-int" => Some(Basis::PrintInt),
+        b"print-bool" => Some(Basis::PrintBool),
+        b"print-sym" => Some(Basis::PrintSym),
+        b"print-unit" => Some(Basis::PrintUnit),
+        b"print-newline" => Some(Basis::PrintNewline),
+        b"print-ascii" => Some(Basis::PrintAscii),
+        b"in" => Some(Basis::Input),
+        _ => None,
     }
 }
 
@@ -211,20 +166,10 @@ pub fn find(word: &[u8]) -> Option<Basis>
     ensures value { result ≡ named word.now }
     ensures exact { MatchOption result ((b : Basis) → name_of b ≢ word.now) (λ b. name_of b ≡ word.now) }
 {
-    if let Some(basis) = equality_named(word) {
-        return Some(basis);
-    }
-    if let Some(basis) = arithmetic_named(word) {
-        return Some(basis);
-    }
-    if let Some(basis) = comparison_named(word) {
-        return Some(basis);
-    }
-    if let Some(basis) = logic_named(word) {
-        return Some(basis);
-    }
-    if let Some(basis) = bitwise_named(word) {
-        return Some(basis);
-    }
-    exchange_named(word)
+    equality_named(word)
+        .or_else(|| arithmetic_named(word))
+        .or_else(|| comparison_named(word))
+        .or_else(|| logic_named(word))
+        .or_else(|| bitwise_named(word))
+        .or_else(|| exchange_named(word))
 }

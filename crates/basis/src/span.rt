@@ -1,4 +1,4 @@
-// A part of a slice, by its places.
+// A part of a slice, by its places. The library's `Range` is not `Copy` and says no more.
 #[derive(Clone, Copy, PartialEq, Eq)]
 pub struct Span {
     // the place of the first byte, from 0

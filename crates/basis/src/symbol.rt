@@ -15,6 +15,7 @@ fn goes(escaped: bool, b: u8) -> bool
 pub fn symbol_len(body: &[u8]) -> usize
     ensures { result ≡ length (unescaped body.now) }
 {
+    // a `filter` would need a closure that remembers the byte before, which is no plainer than this loop
     let mut count = 0;
     let mut escaped = false;
     for b in body {
@@ -36,6 +37,7 @@ pub fn write_symbol(body: &[u8], out: &mut [u8]) -> Option<usize>
     if size > out.len() {
         return None;
     }
+    // the places of two slices differ by what went, so one of them is counted
     let mut at = 0;
     let mut escaped = false;
     for b in body {

@@ -3,5 +3,5 @@ use Rattle.std.proofs.lemmas.Int.{wraps}
 use Rattle.basis.proofs.Wrapping.{wraps_law}
 use Rattle.basis.proofs.arithmetic.multiply.Goals as goal
 
-pub returns : goal.returns
-returns c = record { value = search (rules, wraps); law = wraps_law (c.args.a *ℤ c.args.b) _ (search (rules, wraps)) }
+pub returns-clause-law : goal.returns-clause-law
+returns-clause-law c = wraps_law (c.args.a *ℤ c.args.b) _ (search (rules, wraps))
