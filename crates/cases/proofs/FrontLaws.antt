@@ -1,20 +1,9 @@
--- Newlines in front, a known word in front, one digit more.
-use Rattle.std.proofs.Common.{◌≡◌, ◌≢◌, ℕ, ◌+◌, ◌-◌, ◌*◌, ◌/◌, ◌%◌, ◌<◌, ◌≤◌, ◌^◌, List, [], ◌∷◌, ◌++◌, length, get_or, take, drop, true, sym, refl, ap, ◌∙◌, add-one, arith, drop-cons, ne_eqb, decimal}
-use Rattle.std.proofs.lemmas.List.{drop_all, take-append-drop, take_more}
+-- A known word in front, one digit more.
+use Rattle.std.proofs.Common.{◌≡◌, ℕ, ◌+◌, ◌-◌, ◌*◌, ◌/◌, ◌%◌, ◌<◌, ◌≤◌, ◌^◌, List, [], ◌∷◌, ◌++◌, length, get_or, take, drop, true, sym, refl, ap, ◌∙◌, arith, decimal}
+use Rattle.std.proofs.lemmas.List.{take-append-drop, take_more}
 use Rattle.std.proofs.lemmas.Fmt.{decimal_step}
 use Rattle.std.specs.Cmp.Lexicographic.{same_text}
 use Rattle.std.specs.Str.{bytes_eq}
-use Rattle.cases.specs.Blanks.{without_newlines}
-
-module _ (s : List ℕ) (i : ℕ) (lt : i < length s) where
-  pub newline_here : get_or s i 0 ≡ 10 → without_newlines (drop i s) ≡ without_newlines (drop (i + 1) s)
-  newline_here e = rw (add-one, drop-cons s i 0 lt) (rw (e, without_newlines) refl)
-
-  pub newlines_stop : get_or s i 0 ≢ 10 → without_newlines (drop i s) ≡ drop i s
-  newlines_stop f = rw (drop-cons s i 0 lt) (rw (ne_eqb _ _ f, without_newlines) refl)
-
-pub newlines_end : (s : List ℕ) (i : ℕ) → length s ≤ i → without_newlines (drop i s) ≡ []
-newlines_end s i past = rw (drop_all i s past)
 
 pub word_front : (word left : List ℕ) → bytes_eq (take (length word) left) word ≡ true → left ≡ word ++ drop (length word) left
 word_front word left e = sym (take-append-drop (length word) left) ∙ ap (λ (front : List ℕ). front ++ drop (length word) left) (same_text _ _ (sym e))

@@ -2,3 +2,4 @@ pub mod Blanks
 pub mod Written
 pub mod Within
 pub mod Reading
+pub mod Taking

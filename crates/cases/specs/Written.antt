@@ -1,5 +1,5 @@
 -- How a case is written, and behind it what follows it in the file. A space is 32, and the newline that ends a line is 10.
-use Rattle.std.specs.Prelude.{ℕ, ◌≢◌, ⊤, List, [], ◌∷◌, ◌++◌, length, codes, decimal, All}
+use Rattle.std.specs.Prelude.{ℕ, ◌≢◌, ⊤, List, [], ◌∷◌, ◌++◌, length, codes, decimal, All, Ok, Err, Result}
 use Rattle.cases.specs.declared.case.Advance.{Advance}
 use Rattle.cases.specs.declared.case.Case.{Case}
 use Rattle.cases.specs.declared.case.Case.TheVariants.{Check, Run}
@@ -8,10 +8,9 @@ use Rattle.cases.specs.declared.case.Close.{Close}
 use Rattle.cases.specs.declared.case.End.{End}
 use Rattle.cases.specs.declared.case.End.TheVariants.{Ended, Paused, Full, Faulted}
 use Rattle.cases.specs.declared.case.Fault.{Fault}
+use Rattle.cases.specs.declared.case.Refused.{Refused}
 use Rattle.cases.specs.declared.case.RunCase.{RunCase}
 use Rattle.cases.specs.declared.case.Sizes.{Sizes}
-use Rattle.cases.specs.declared.case.Verdict.{Verdict}
-use Rattle.cases.specs.declared.case.Verdict.TheVariants as verdict
 
 -- a known word, and a number
 abbrev pub numbered : List ℕ → ℕ → List ℕ → List ℕ
@@ -22,9 +21,9 @@ abbrev pub told_block : List ℕ → List ℕ → List ℕ → List ℕ
 told_block word bytes rest = numbered word (length bytes) (10 ∷ (bytes ++ 10 ∷ rest))
 
 -- refused NUMBER PLACE, or accepted
-abbrev pub verdict_then : Verdict → List ℕ → List ℕ
-verdict_then verdict.Accepted rest = codes "accepted\n" ++ rest
-verdict_then (verdict.Refused r) rest = numbered (codes "refused ") r.number (numbered (codes " ") r.place (10 ∷ rest))
+abbrev pub verdict_then : Result (Unit {0}) Refused → List ℕ → List ℕ
+verdict_then (Ok _) rest = codes "accepted\n" ++ rest
+verdict_then (Err r) rest = numbered (codes "refused ") r.number (numbered (codes " ") r.place (10 ∷ rest))
 
 -- text LENGTH, the text, nodes COUNT, the verdict
 abbrev pub check_then : CheckCase → List ℕ → List ℕ

@@ -1,20 +1,15 @@
 // A case with its answers. Texts, inputs, outputs and names are parts of the file.
 
 // What reading and checking a script with a node list of so many entries answers.
-#[derive(Clone, Copy)]
+#[derive(Clone, Copy, PartialEq, Eq)]
 pub struct CheckCase<'c> {
     pub text: &'c [u8],
     pub nodes: u32,
-    pub verdict: Verdict,
+    // accepted, or refused so
+    pub verdict: Result<(), Refused>,
 }
 
-#[derive(Clone, Copy)]
-pub enum Verdict {
-    Accepted,
-    Refused(Refused),
-}
-
-#[derive(Clone, Copy)]
+#[derive(Clone, Copy, PartialEq, Eq)]
 pub struct Refused {
     pub number: u32,
     pub place: u32,
@@ -31,7 +26,7 @@ pub struct RunCase<'c> {
 }
 
 // What a run has at opening.
-#[derive(Clone, Copy)]
+#[derive(Clone, Copy, PartialEq, Eq)]
 pub struct Sizes {
     // how many cells are free
     pub cells: u32,
@@ -42,7 +37,7 @@ pub struct Sizes {
     pub allowance: u32,
 }
 
-#[derive(Clone, Copy)]
+#[derive(Clone, Copy, PartialEq, Eq)]
 pub struct Advance<'c> {
     // at most so many steps
     pub count: u32,
@@ -55,7 +50,7 @@ pub struct Advance<'c> {
 }
 
 // How an advance ends.
-#[derive(Clone, Copy)]
+#[derive(Clone, Copy, PartialEq, Eq)]
 pub enum End<'c> {
     Ended,
     Paused,
@@ -64,7 +59,7 @@ pub enum End<'c> {
     Faulted(Fault<'c>),
 }
 
-#[derive(Clone, Copy)]
+#[derive(Clone, Copy, PartialEq, Eq)]
 pub struct Fault<'c> {
     pub number: u32,
     pub place: u32,
@@ -73,7 +68,7 @@ pub struct Fault<'c> {
 }
 
 // The whole run's counts.
-#[derive(Clone, Copy)]
+#[derive(Clone, Copy, PartialEq, Eq)]
 pub struct Close {
     pub steps: u32,
     pub taken: u32,

@@ -1,34 +1,18 @@
-// What stands at the front of what is left of a file: a known word, a number, a block. Each answers with what follows.
+// What is left of a file, and taking from its front what has to stand there: a known word, a number, a block, a line.
 ghost use Rattle.std.specs.Prelude.{◌≡◌, ◌+◌, ◌≤◌, ◌<◌, ◌++◌, ◌∷◌, length, decimal, All, ◌≢◌, IfOk, IfErr, IfSome};
 ghost use Rattle.cases.specs.Blanks.{without_newlines};
+ghost use Rattle.cases.specs.Taking.{Takes};
 ghost use Rattle.cases.specs.Written.{numbered, told_block};
 
 use super::Malformed;
 
-// What follows the word.
-pub(crate) fn after<'c>(word: &[u8], left: &'c [u8]) -> Result<&'c [u8], Malformed>
-    ensures front { IfOk result (λ rest. left.now ≡ word.now ++ rest.now) }
-    ensures within { IfErr result (λ e. e.left ≤ length left.now) }
-{
-    match left.strip_prefix(word) {
-        Some(rest) => Ok(rest),
-        None => Err(Malformed { left: left.len() }),
-    }
+#[derive(Drop)]
+pub(crate) struct Front<'c> {
+    pub(crate) left: &'c [u8],
 }
 
-// How many digits stand there.
-fn digit_count(left: &[u8]) -> usize
-    ensures { result ≤ length left.now }
-{
-    for (i, b) in left.iter().enumerate() {
-        if !b.is_ascii_digit() {
-            return i;
-        }
-    }
-    left.len()
-}
-
-// The number that a first digit, which is not 0, and more digits write; none where it has more than 32 bits.
+// The number that a first digit, which is not 0, and more digits write; none where it has more than 32 bits. The library's `parse`
+// takes a plus and needless zeros besides, so it is no plainer here.
 fn number_on(first: u32, more: &[u8]) -> Option<u32>
     requires positive { 0 < first }
     requires digit { first < 10 }
@@ -55,92 +39,92 @@ fn number_of(word: &[u8]) -> Option<u32>
     }
 }
 
-#[derive(Clone, Copy)]
-pub(crate) struct NumberAt<'c> {
-    pub(crate) number: u32,
-    pub(crate) rest: &'c [u8],
-}
-
-pub(crate) fn number_at(left: &[u8]) -> Result<NumberAt<'_>, Malformed>
-    ensures front { IfOk result (λ at. left.now ≡ decimal at.number ++ at.rest.now) }
-    ensures within { IfErr result (λ e. e.left ≤ length left.now) }
-{
-    let count = digit_count(left);
-    match number_of(&left[..count]) {
-        Some(number) => Ok(NumberAt {
-            number,
-            rest: &left[count..],
-        }),
-        None => Err(Malformed { left: left.len() }),
-    }
-}
-
-#[derive(Clone, Copy)]
-pub(crate) struct BlockAt<'c> {
-    pub(crate) bytes: &'c [u8],
-    pub(crate) rest: &'c [u8],
-}
-
-// A block of so many bytes, whatever they are, and the newline that ends it.
-pub(crate) fn block_at(size: u32, left: &[u8]) -> Result<BlockAt<'_>, Malformed>
-    ensures front { IfOk result (λ at. left.now ≡ at.bytes.now ++ 10 ∷ at.rest.now) }
-    ensures length { IfOk result (λ at. length at.bytes.now ≡ size) }
-    ensures within { IfErr result (λ e. e.left ≤ length left.now) }
-{
-    let end = size as usize;
-    if end < left.len() && left[end] == b'\n' {
-        Ok(BlockAt {
-            bytes: &left[..end],
-            rest: &left[end + 1..],
-        })
-    } else {
-        Err(Malformed { left: left.len() })
-    }
-}
-
-// A line, and the newline that ends it.
-pub(crate) fn line_at(left: &[u8]) -> Result<BlockAt<'_>, Malformed>
-    ensures front { IfOk result (λ at. left.now ≡ at.bytes.now ++ 10 ∷ at.rest.now) }
-    ensures line { IfOk result (λ at. All (λ b. b ≢ 10) at.bytes.now) }
-    ensures within { IfErr result (λ e. e.left ≤ length left.now) }
-{
-    for (i, b) in left.iter().enumerate() {
-        if *b == b'\n' {
-            return Ok(BlockAt {
-                bytes: &left[..i],
-                rest: &left[i + 1..],
-            });
+impl<'c> Front<'c> {
+    // That what has to stand at the front does not.
+    fn malformed(&self) -> Malformed
+        ensures { result.left ≡ length self.now.left.now }
+    {
+        Malformed {
+            left: self.left.len(),
         }
     }
-    Err(Malformed { left: left.len() })
-}
 
-// A known word, and a number.
-pub(crate) fn numbered<'c>(word: &[u8], left: &'c [u8]) -> Result<NumberAt<'c>, Malformed>
-    ensures front { IfOk result (λ at. left.now ≡ numbered word.now at.number at.rest.now) }
-    ensures within { IfErr result (λ e. e.left ≤ length left.now) }
-{
-    number_at(after(word, left)?)
-}
+    // A known word.
+    pub(crate) fn word(&mut self, word: &[u8]) -> Result<(), Malformed>
+        ensures takes { Takes result self.old.left.now self.new.left.now (λ _ rest. word.now ++ rest) }
+        ensures kept { IfErr result (λ _. self.new.left.now ≡ self.old.left.now) }
+    {
+        self.left = self.left.strip_prefix(word).ok_or(self.malformed())?;
+        Ok(())
+    }
 
-// A block, on the line behind its length.
-pub(crate) fn told_block<'c>(word: &[u8], left: &'c [u8]) -> Result<BlockAt<'c>, Malformed>
-    ensures front { IfOk result (λ at. left.now ≡ told_block word.now at.bytes.now at.rest.now) }
-    ensures within { IfErr result (λ e. e.left ≤ length left.now) }
-{
-    let told = numbered(word, left)?;
-    block_at(told.number, after(b"\n", told.rest)?)
-}
+    // A number in decimal.
+    pub(crate) fn number(&mut self) -> Result<u32, Malformed>
+        ensures { Takes result self.old.left.now self.new.left.now (λ n rest. decimal n ++ rest) }
+    {
+        let digits = self
+            .left
+            .iter()
+            .position(|b| !b.is_ascii_digit())
+            .unwrap_or(self.left.len());
+        let number = number_of(&self.left[..digits]).ok_or(self.malformed())?;
+        self.left = &self.left[digits..];
+        Ok(number)
+    }
 
-// What is left behind the newlines in front.
-pub(crate) fn skip_newlines(left: &[u8]) -> &[u8]
-    ensures value { result.now ≡ without_newlines left.now }
-    ensures within { length result.now ≤ length left.now }
-{
-    for (i, b) in left.iter().enumerate() {
-        if *b != b'\n' {
-            return &left[i..];
+    // A block of so many bytes, whatever they are, and the newline that ends it.
+    pub(crate) fn block(&mut self, size: u32) -> Result<&'c [u8], Malformed>
+        ensures takes { Takes result self.old.left.now self.new.left.now (λ bytes rest. bytes.now ++ 10 ∷ rest) }
+        ensures length { IfOk result (λ bytes. length bytes.now ≡ size) }
+    {
+        match self.left.split_at_checked(size as usize) {
+            Some((bytes, [b'\n', rest @ ..])) => {
+                self.left = rest;
+                Ok(bytes)
+            }
+            _ => Err(self.malformed()),
         }
     }
-    &[]
+
+    // A line, and the newline that ends it.
+    pub(crate) fn line(&mut self) -> Result<&'c [u8], Malformed>
+        ensures takes { Takes result self.old.left.now self.new.left.now (λ bytes rest. bytes.now ++ 10 ∷ rest) }
+        ensures line { IfOk result (λ bytes. All (λ b. b ≢ 10) bytes.now) }
+    {
+        let end = self
+            .left
+            .iter()
+            .position(|b| *b == b'\n')
+            .ok_or(self.malformed())?;
+        let bytes = &self.left[..end];
+        self.left = &self.left[end + 1..];
+        Ok(bytes)
+    }
+
+    // A known word, and a number.
+    pub(crate) fn numbered(&mut self, word: &[u8]) -> Result<u32, Malformed>
+        ensures { Takes result self.old.left.now self.new.left.now (λ n rest. numbered word.now n rest) }
+    {
+        self.word(word)?;
+        self.number()
+    }
+
+    // A block, on the line behind its length.
+    pub(crate) fn told_block(&mut self, word: &[u8]) -> Result<&'c [u8], Malformed>
+        ensures { Takes result self.old.left.now self.new.left.now (λ bytes rest. told_block word.now bytes.now rest) }
+    {
+        let size = self.numbered(word)?;
+        self.word(b"\n")?;
+        self.block(size)
+    }
+
+    // The newlines in front go.
+    pub(crate) fn skip_newlines(&mut self)
+        ensures value { self.new.left.now ≡ without_newlines self.old.left.now }
+        ensures within { length self.new.left.now ≤ length self.old.left.now }
+    {
+        while let [b'\n', rest @ ..] = self.left {
+            self.left = rest;
+        }
+    }
 }

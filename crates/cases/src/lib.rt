@@ -10,7 +10,7 @@ mod reading;
 mod runs;
 mod unread;
 
-pub use case::{Advance, Case, CheckCase, Close, End, Fault, Refused, RunCase, Sizes, Verdict};
+pub use case::{Advance, Case, CheckCase, Close, End, Fault, Refused, RunCase, Sizes};
 pub use malformed::Malformed;
 pub use reading::{CaseAt, next_case};
 pub use unread::Unread;

@@ -4,7 +4,7 @@ ghost use Rattle.explain.specs.Lines.{line_of, column_of};
 
 use explain::{Position, position_of};
 
-#[derive(Clone, Copy)]
+#[derive(Clone, Copy, PartialEq, Eq)]
 pub struct Malformed {
     // how many bytes of the file are left there
     pub left: usize,

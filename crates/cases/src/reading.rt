@@ -3,9 +3,7 @@ ghost use Rattle.cases.specs.Reading.{Reads};
 
 use super::Unread;
 use super::case::Case;
-use super::checks::check_case;
-use super::front::{skip_newlines, told_block};
-use super::runs::run_case;
+use super::front::Front;
 use std::alloc::Global;
 
 // The next case, and what is left of the file behind it.
@@ -19,22 +17,19 @@ pub struct CaseAt<'c> {
 pub fn next_case(heap: Global, left: &[u8]) -> Result<Option<CaseAt<'_>>, Unread>
     ensures { Reads left.now result }
 {
-    let left = skip_newlines(left);
-    if left.is_empty() {
+    let mut front = Front { left };
+    front.skip_newlines();
+    if front.left.is_empty() {
         return Ok(None);
     }
-    let text = told_block(b"text ", left)?;
-    if text.rest.starts_with(b"nodes ") {
-        let at = check_case(text.bytes, text.rest)?;
-        Ok(Some(CaseAt {
-            case: Case::Check(at.case),
-            rest: at.rest,
-        }))
+    let text = front.told_block(b"text ")?;
+    let case = if front.left.starts_with(b"nodes ") {
+        Case::Check(front.check_case(text)?)
     } else {
-        let at = run_case(heap, text.bytes, text.rest)?;
-        Ok(Some(CaseAt {
-            case: Case::Run(at.case),
-            rest: at.rest,
-        }))
-    }
+        Case::Run(front.run_case(heap, text)?)
+    };
+    Ok(Some(CaseAt {
+        case,
+        rest: front.left,
+    }))
 }

@@ -1,187 +1,28 @@
 // Cases of a run.
 ghost use Rattle.std.specs.Prelude.{◌≡◌, ◌≢◌, ◌<◌, ◌≤◌, ◌∷◌, [], ◌++◌, length, codes, All, OnOk, IfOk, IfErr};
+ghost use Rattle.cases.specs.Taking.{Takes};
 ghost use Rattle.cases.specs.Within.{IsWithin};
 ghost use Rattle.cases.specs.Written.{numbered, sizes_then, fault_then, end_then, HasName, advance_then, AdvancesHaveNames, advances_then, close_then, rest_of_run};
 
 use super::case::{Advance, Close, End, Fault, RunCase, Sizes};
-use super::front::{after, block_at, line_at, numbered, told_block};
+use super::front::Front;
 use super::{Malformed, Unread};
 use std::alloc::{AllocError, Global};
 
+// The two numbers behind a word.
 #[derive(Clone, Copy)]
-struct SizesAt<'c> {
-    sizes: Sizes,
-    rest: &'c [u8],
-}
-
-fn sizes(left: &[u8]) -> Result<SizesAt<'_>, Malformed>
-    ensures front { IfOk result (λ at. left.now ≡ sizes_then at.sizes at.rest.now) }
-    ensures within { IfErr result (λ e. e.left ≤ length left.now) }
-{
-    let cells = numbered(b"sizes ", left)?;
-    let first = numbered(b" ", cells.rest)?;
-    let second = numbered(b" ", first.rest)?;
-    let allowance = numbered(b" ", second.rest)?;
-    Ok(SizesAt {
-        sizes: Sizes {
-            cells: cells.number,
-            first: first.number,
-            second: second.number,
-            allowance: allowance.number,
-        },
-        rest: after(b"\n", allowance.rest)?,
-    })
-}
-
-#[derive(Clone, Copy)]
-struct CountsAt<'c> {
+struct Counts {
+    // of an advance, at most or as they were taken
     steps: u32,
-    // of the bytes that are written
+    // of bytes, the room for them or those that are written
     size: u32,
-    rest: &'c [u8],
 }
 
-// How an advance ended, by its word, and its counts.
-fn counts<'c>(word: &[u8], left: &'c [u8]) -> Result<CountsAt<'c>, Malformed>
-    ensures front { IfOk result (λ at. left.now ≡ numbered word.now at.steps (numbered (codes " ") at.size at.rest.now)) }
-    ensures within { IfErr result (λ e. e.left ≤ length left.now) }
-{
-    let steps = numbered(word, left)?;
-    let size = numbered(b" ", steps.rest)?;
-    Ok(CountsAt {
-        steps: steps.number,
-        size: size.number,
-        rest: size.rest,
-    })
-}
-
+// How an advance ended, with its counts.
 #[derive(Clone, Copy)]
-struct FaultAt<'c> {
-    fault: Fault<'c>,
-    rest: &'c [u8],
-}
-
-fn fault(left: &[u8]) -> Result<FaultAt<'_>, Malformed>
-    ensures front { IfOk result (λ at. left.now ≡ fault_then at.fault at.rest.now) }
-    ensures name { IfOk result (λ at. All (λ b. b ≢ 10) at.fault.name.now) }
-    ensures within { IfErr result (λ e. e.left ≤ length left.now) }
-{
-    let number = numbered(b" ", left)?;
-    let place = numbered(b" ", number.rest)?;
-    let name = line_at(after(b" ", place.rest)?)?;
-    Ok(FaultAt {
-        fault: Fault {
-            number: number.number,
-            place: place.number,
-            name: name.bytes,
-        },
-        rest: name.rest,
-    })
-}
-
-#[derive(Clone, Copy)]
-struct EndAt<'c> {
+struct Ending<'c> {
     end: End<'c>,
-    steps: u32,
-    size: u32,
-    rest: &'c [u8],
-}
-
-fn ended(left: &[u8]) -> Result<EndAt<'_>, Malformed>
-    ensures front { IfOk result (λ at. left.now ≡ end_then at.end at.steps at.size at.rest.now) }
-    ensures name { IfOk result (λ at. HasName at.end) }
-    ensures within { IfErr result (λ e. e.left ≤ length left.now) }
-{
-    let counts = counts(b"ended ", left)?;
-    Ok(EndAt {
-        end: End::Ended,
-        steps: counts.steps,
-        size: counts.size,
-        rest: after(b"\n", counts.rest)?,
-    })
-}
-
-fn paused(left: &[u8]) -> Result<EndAt<'_>, Malformed>
-    ensures front { IfOk result (λ at. left.now ≡ end_then at.end at.steps at.size at.rest.now) }
-    ensures name { IfOk result (λ at. HasName at.end) }
-    ensures within { IfErr result (λ e. e.left ≤ length left.now) }
-{
-    let counts = counts(b"paused ", left)?;
-    Ok(EndAt {
-        end: End::Paused,
-        steps: counts.steps,
-        size: counts.size,
-        rest: after(b"\n", counts.rest)?,
-    })
-}
-
-fn full(left: &[u8]) -> Result<EndAt<'_>, Malformed>
-    ensures front { IfOk result (λ at. left.now ≡ end_then at.end at.steps at.size at.rest.now) }
-    ensures name { IfOk result (λ at. HasName at.end) }
-    ensures within { IfErr result (λ e. e.left ≤ length left.now) }
-{
-    let counts = counts(b"full ", left)?;
-    Ok(EndAt {
-        end: End::Full,
-        steps: counts.steps,
-        size: counts.size,
-        rest: after(b"\n", counts.rest)?,
-    })
-}
-
-fn faulted(left: &[u8]) -> Result<EndAt<'_>, Malformed>
-    ensures front { IfOk result (λ at. left.now ≡ end_then at.end at.steps at.size at.rest.now) }
-    ensures name { IfOk result (λ at. HasName at.end) }
-    ensures within { IfErr result (λ e. e.left ≤ length left.now) }
-{
-    let counts = counts(b"fault ", left)?;
-    let fault = fault(counts.rest)?;
-    Ok(EndAt {
-        end: End::Faulted(fault.fault),
-        steps: counts.steps,
-        size: counts.size,
-        rest: fault.rest,
-    })
-}
-
-fn end(left: &[u8]) -> Result<EndAt<'_>, Malformed>
-    ensures front { IfOk result (λ at. left.now ≡ end_then at.end at.steps at.size at.rest.now) }
-    ensures name { IfOk result (λ at. HasName at.end) }
-    ensures within { IfErr result (λ e. e.left ≤ length left.now) }
-{
-    match left {
-        [b'e', ..] => ended(left),
-        [b'p', ..] => paused(left),
-        [b'f', b'u', ..] => full(left),
-        _ => faulted(left),
-    }
-}
-
-#[derive(Clone, Copy)]
-struct AdvanceAt<'c> {
-    advance: Advance<'c>,
-    rest: &'c [u8],
-}
-
-fn advance(left: &[u8]) -> Result<AdvanceAt<'_>, Malformed>
-    ensures front { IfOk result (λ at. left.now ≡ advance_then at.advance at.rest.now) }
-    ensures name { IfOk result (λ at. HasName at.advance.end) }
-    ensures shorter { IfOk result (λ at. length at.rest.now < length left.now) }
-    ensures within { IfErr result (λ e. e.left ≤ length left.now) }
-{
-    let asked = counts(b"advance ", left)?;
-    let end = end(after(b"\n", asked.rest)?)?;
-    let written = block_at(end.size, end.rest)?;
-    Ok(AdvanceAt {
-        advance: Advance {
-            count: asked.steps,
-            room: asked.size,
-            end: end.end,
-            steps: end.steps,
-            bytes: written.bytes,
-        },
-        rest: written.rest,
-    })
+    counts: Counts,
 }
 
 fn keep<'c>(advances: &mut Vec<Advance<'c>>, advance: Advance<'c>) -> Result<(), AllocError>
@@ -191,80 +32,142 @@ fn keep<'c>(advances: &mut Vec<Advance<'c>>, advance: Advance<'c>) -> Result<(),
     Ok(())
 }
 
-#[derive(Drop)]
-struct AdvancesAt<'c> {
-    advances: Vec<Advance<'c>>,
-    rest: &'c [u8],
-}
-
-fn advances(heap: Global, left: &[u8]) -> Result<AdvancesAt<'_>, Unread>
-    ensures front { IfOk result (λ at. left.now ≡ advances_then at.advances.items at.rest.now) }
-    ensures names { IfOk result (λ at. AdvancesHaveNames at.advances.items) }
-    ensures shorter { IfOk result (λ at. length at.rest.now ≤ length left.now) }
-    ensures within { IfErr result (λ e. IsWithin e left.now) }
-{
-    let mut advances = Vec::new(heap);
-    let mut rest = left;
-    while rest.starts_with(b"advance ") {
-        let at = advance(rest)?;
-        keep(&mut advances, at.advance)?;
-        rest = at.rest;
+impl<'c> Front<'c> {
+    fn sizes(&mut self) -> Result<Sizes, Malformed>
+        ensures { Takes result self.old.left.now self.new.left.now sizes_then }
+    {
+        let cells = self.numbered(b"sizes ")?;
+        let first = self.numbered(b" ")?;
+        let second = self.numbered(b" ")?;
+        let allowance = self.numbered(b" ")?;
+        self.word(b"\n")?;
+        Ok(Sizes {
+            cells,
+            first,
+            second,
+            allowance,
+        })
     }
-    Ok(AdvancesAt { advances, rest })
-}
 
-#[derive(Clone, Copy)]
-struct CloseAt<'c> {
-    close: Close,
-    rest: &'c [u8],
-}
+    fn counts(&mut self, word: &[u8]) -> Result<Counts, Malformed>
+        ensures { Takes result self.old.left.now self.new.left.now (λ c rest. numbered word.now c.steps (numbered (codes " ") c.size rest)) }
+    {
+        let steps = self.numbered(word)?;
+        let size = self.numbered(b" ")?;
+        Ok(Counts { steps, size })
+    }
 
-fn close(left: &[u8]) -> Result<CloseAt<'_>, Malformed>
-    ensures front { IfOk result (λ at. left.now ≡ close_then at.close at.rest.now) }
-    ensures within { IfErr result (λ e. e.left ≤ length left.now) }
-{
-    let steps = numbered(b"close ", left)?;
-    let taken = numbered(b" ", steps.rest)?;
-    let given_back = numbered(b" ", taken.rest)?;
-    Ok(CloseAt {
-        close: Close {
-            steps: steps.number,
-            taken: taken.number,
-            given_back: given_back.number,
-        },
-        rest: after(b"\n", given_back.rest)?,
-    })
-}
+    // An end that is told by its word alone.
+    fn ended(&mut self, word: &[u8], end: End<'c>) -> Result<Ending<'c>, Malformed>
+        ensures takes { Takes result self.old.left.now self.new.left.now (λ e rest. numbered word.now e.counts.steps (numbered (codes " ") e.counts.size (10 ∷ rest))) }
+        ensures end { IfOk result (λ e. e.end ≡ end.entry) }
+    {
+        let counts = self.counts(word)?;
+        self.word(b"\n")?;
+        Ok(Ending { end, counts })
+    }
 
-#[derive(Drop)]
-pub(crate) struct RunAt<'c> {
-    pub(crate) case: RunCase<'c>,
-    pub(crate) rest: &'c [u8],
-}
+    fn fault(&mut self) -> Result<Fault<'c>, Malformed>
+        ensures takes { Takes result self.old.left.now self.new.left.now fault_then }
+        ensures name { IfOk result (λ f. All (λ b. b ≢ 10) f.name.now) }
+    {
+        let number = self.numbered(b" ")?;
+        let place = self.numbered(b" ")?;
+        self.word(b" ")?;
+        let name = self.line()?;
+        Ok(Fault {
+            number,
+            place,
+            name,
+        })
+    }
 
-// What follows the text: the input, the sizes, the advances and the close.
-pub(crate) fn run_case<'c>(
-    heap: Global,
-    text: &'c [u8],
-    left: &'c [u8],
-) -> Result<RunAt<'c>, Unread>
-    ensures front { IfOk result (λ at. left.now ≡ rest_of_run at.case at.rest.now) }
-    ensures text { IfOk result (λ at. at.case.text.now ≡ text.now) }
-    ensures names { IfOk result (λ at. AdvancesHaveNames at.case.advances.items) }
-    ensures within { IfErr result (λ e. IsWithin e left.now) }
-{
-    let input = told_block(b"input ", left)?;
-    let sizes = sizes(input.rest)?;
-    let told = advances(heap, sizes.rest)?;
-    let close = close(told.rest)?;
-    Ok(RunAt {
-        case: RunCase {
+    fn faulted(&mut self) -> Result<Ending<'c>, Malformed>
+        ensures takes { Takes result self.old.left.now self.new.left.now (λ e rest. end_then e.end e.counts.steps e.counts.size rest) }
+        ensures name { IfOk result (λ e. HasName e.end) }
+    {
+        let counts = self.counts(b"fault ")?;
+        let fault = self.fault()?;
+        Ok(Ending {
+            end: End::Faulted(fault),
+            counts,
+        })
+    }
+
+    fn ending(&mut self) -> Result<Ending<'c>, Malformed>
+        ensures takes { Takes result self.old.left.now self.new.left.now (λ e rest. end_then e.end e.counts.steps e.counts.size rest) }
+        ensures name { IfOk result (λ e. HasName e.end) }
+    {
+        match self.left {
+            [b'e', ..] => self.ended(b"ended ", End::Ended),
+            [b'p', ..] => self.ended(b"paused ", End::Paused),
+            [b'f', b'u', ..] => self.ended(b"full ", End::Full),
+            _ => self.faulted(),
+        }
+    }
+
+    fn advance(&mut self) -> Result<Advance<'c>, Malformed>
+        ensures takes { Takes result self.old.left.now self.new.left.now advance_then }
+        ensures name { IfOk result (λ a. HasName a.end) }
+        ensures shorter { IfOk result (λ _. length self.new.left.now < length self.old.left.now) }
+    {
+        let asked = self.counts(b"advance ")?;
+        self.word(b"\n")?;
+        let told = self.ending()?;
+        let bytes = self.block(told.counts.size)?;
+        Ok(Advance {
+            count: asked.steps,
+            room: asked.size,
+            end: told.end,
+            steps: told.counts.steps,
+            bytes,
+        })
+    }
+
+    fn advances(&mut self, heap: Global) -> Result<Vec<Advance<'c>>, Unread>
+        ensures front { IfOk result (λ v. self.old.left.now ≡ advances_then v.items self.new.left.now) }
+        ensures names { IfOk result (λ v. AdvancesHaveNames v.items) }
+        ensures shorter { IfOk result (λ _. length self.new.left.now ≤ length self.old.left.now) }
+        ensures within { IfErr result (λ e. IsWithin e self.old.left.now) }
+    {
+        let mut advances = Vec::new(heap);
+        while self.left.starts_with(b"advance ") {
+            keep(&mut advances, self.advance()?)?;
+        }
+        Ok(advances)
+    }
+
+    fn close(&mut self) -> Result<Close, Malformed>
+        ensures { Takes result self.old.left.now self.new.left.now close_then }
+    {
+        let steps = self.numbered(b"close ")?;
+        let taken = self.numbered(b" ")?;
+        let given_back = self.numbered(b" ")?;
+        self.word(b"\n")?;
+        Ok(Close {
+            steps,
+            taken,
+            given_back,
+        })
+    }
+
+    // What follows the text: the input, the sizes, the advances and the close.
+    pub(crate) fn run_case(&mut self, heap: Global, text: &'c [u8]) -> Result<RunCase<'c>, Unread>
+        ensures front { IfOk result (λ c. self.old.left.now ≡ rest_of_run c self.new.left.now) }
+        ensures text { IfOk result (λ c. c.text.now ≡ text.now) }
+        ensures names { IfOk result (λ c. AdvancesHaveNames c.advances.items) }
+        ensures within { IfErr result (λ e. IsWithin e self.old.left.now) }
+    {
+        let input = self.told_block(b"input ")?;
+        let sizes = self.sizes()?;
+        let advances = self.advances(heap)?;
+        let close = self.close()?;
+        Ok(RunCase {
             text,
-            input: input.bytes,
-            sizes: sizes.sizes,
-            advances: told.advances,
-            close: close.close,
-        },
-        rest: close.rest,
-    })
+            input,
+            sizes,
+            advances,
+            close,
+        })
+    }
 }
