@@ -1,5 +1,5 @@
 -- A pattern's tokens, one by one.
-use Rattle.std.proofs.Common.{◌≡◌, ℕ, ◌+◌, ◌≤◌, List, [], ◌∷◌, length, take, drop, sym, refl, ap, ◌∙◌, subst, arith}
+use Rattle.std.proofs.Common.{◌≡◌, ℕ, ◌+◌, ◌≤◌, List, [], ◌∷◌, length, Some, None, Option, take, drop, sym, refl, ap, ◌∙◌, subst, arith}
 use Rattle.forms.specs.Looks.{Seen, Sees}
 use Rattle.forms.specs.declared.sight.Look.{Look}
 use Rattle.forms.specs.declared.sight.Look.TheVariants as look
@@ -15,8 +15,6 @@ use Rattle.layout.specs.Spelling.{Spells, Shows}
 use Rattle.layout.specs.declared.word.Word.{Word}
 use Rattle.patterns.specs.Parts.{IsWord, PartsAt, HeadAt, IsHead, IsPart}
 use Rattle.patterns.specs.declared.head.Head.{Head}
-use Rattle.patterns.specs.declared.head.Head.TheVariants as head
-use Rattle.patterns.specs.declared.part.Part.TheVariants as part
 use Rattle.text.specs.Grammar.{NoBracket}
 use Rattle.text.specs.Tokens.{lexeme, Lexed, also, lexed_from}
 use Rattle.text.specs.declared.bracket.Bracket.{Bracket}
@@ -72,7 +70,7 @@ first_part text place p after k w x xs seen n at =
     }
 
 by_name : (text : List ℕ) (place p after : ℕ) (w : List ℕ) (name : Word) (xs : List PatternPart) {s : Sexp} {x : PatternPart} → PartOf s x → s ≡ atom kind.Name p w
-    → length text ≤ 65535 → Seen text place kind.Name w p after → IsWord p after name → PartsAt text after xs → IsPart text (x ∷ xs) (part.Bound name after)
+    → length text ≤ 65535 → Seen text place kind.Name w p after → IsWord p after name → PartsAt text after xs → IsPart text (x ∷ xs) (Some (record { name = Some name; after = after }))
 by_name text place p after w name xs (bound {x = x} h) e short seen is more =
     let z : atom kind.Name x.place x.bytes ≡ atom kind.Name p w = sym h ∙ e in
     let ep : x.place ≡ p = cc in
@@ -81,11 +79,11 @@ by_name text place p after w name xs (bound {x = x} h) e short seen is more =
 by_name text place p after w name xs skipped e short seen is more = absurd (clash cc)
 
 by_other : (text : List ℕ) (after : ℕ) (xs : List PatternPart) {s : Sexp} {x : PatternPart} → PartOf s x → (k : TokenKind) (p : ℕ) (w : List ℕ) → s ≡ atom k p w → (k ≡ kind.Name → ⊥)
-    → PartsAt text after xs → IsPart text (x ∷ xs) (part.Skipped after)
+    → PartsAt text after xs → IsPart text (x ∷ xs) (Some (record { name = None; after = after }))
 by_other text after xs (bound {x = x} h) k p w e f more =
     let z : atom kind.Name x.place x.bytes ≡ atom k p w = sym h ∙ e in
     absurd (f cc)
-by_other text after xs skipped k p w e f more = more
+by_other text after xs skipped k p w e f more = (tt, more)
 
 no_name : (text : List ℕ) (place p after : ℕ) (k : TokenKind) (w : List ℕ) → Seen text place k w p after → NoBracket k → PartsAt text place [] → ⊥
 no_name text place p after k w seen n at = none at.derived at.follow
@@ -97,14 +95,14 @@ no_name text place p after k w seen n at = none at.derived at.follow
         subst NoBracket (ap (λ t. t.kind) z) n
 
 pub next_name : (text : List ℕ) (place p after : ℕ) (w : List ℕ) (name : Word) (xs : List PatternPart) → length text ≤ 65535 → Seen text place kind.Name w p after → IsWord p after name
-    → PartsAt text place xs → IsPart text xs (part.Bound name after)
+    → PartsAt text place xs → IsPart text xs (Some (record { name = Some name; after = after }))
 next_name text place p after w name [] short seen is at = no_name text place p after kind.Name w seen tt at
 next_name text place p after w name (x ∷ xs) short seen is at =
     let f = first_part text place p after kind.Name w x xs seen tt at in
     by_name text place p after w name xs f.one refl short seen is f.more
 
 pub next_other : (text : List ℕ) (place p after : ℕ) (k : TokenKind) (w : List ℕ) (xs : List PatternPart) → Seen text place k w p after → NoBracket k → (k ≡ kind.Name → ⊥)
-    → PartsAt text place xs → IsPart text xs (part.Skipped after)
+    → PartsAt text place xs → IsPart text xs (Some (record { name = None; after = after }))
 next_other text place p after k w [] seen n f at = no_name text place p after k w seen n at
 next_other text place p after k w (x ∷ xs) seen n f at =
     let d = first_part text place p after k w x xs seen n at in
@@ -112,7 +110,7 @@ next_other text place p after k w (x ∷ xs) seen n f at =
 
 -- the head of a pattern
 pub head_lies : (text : List ℕ) (place p after q : ℕ) (k : TokenKind) (w : List ℕ) (name : Word) (c : Ident) (xs : List PatternPart) → length text ≤ 65535 → Seen text place k w p after
-    → NoBracket k → IsWord p after name → HeadAt text place c xs → IsHead text (tree.constructor q c xs) (head.Constructor q name after)
+    → NoBracket k → IsWord p after name → HeadAt text place c xs → IsHead text (tree.constructor q c xs) (Some (record { place = q; name = name; inside = after }))
 head_lies text place p after q k w name c xs short seen n is at =
     let e : also (lexeme k p w) (lexed_from text after) ≡ stream at.first (closed_by at.forms at.shape at.end at.rest) = sym seen.follows ∙ at.follow in
     let f = is_atom k p w (lexed_from text after) at.first _ n e in
@@ -127,7 +125,7 @@ head_lies text place p after q k w name c xs short seen n is at =
 
 -- a pattern in brackets is no wildcard, and one without is nothing else
 in_brackets : (text : List ℕ) (place p after : ℕ) (r : Bracket) (w : List ℕ) {s : Sexp} {x : Pattern} → PatternOf s x → Atoms s → (rest : Lexed) → lexed_from text place ≡ stream s rest
-    → Seen text place (kind.Open r) w p after → (h : Head) → ((c : Ident) (xs : List PatternPart) → HeadAt text after c xs → IsHead text (tree.constructor p c xs) h) → IsHead text x h
+    → Seen text place (kind.Open r) w p after → (h : Option Head) → ((c : Ident) (xs : List PatternPart) → HeadAt text after c xs → IsHead text (tree.constructor p c xs) h) → IsHead text x h
 in_brackets text place p after r w (wildcard {p = p'} {w = w'}) a rest e seen h f =
     let l = is_list r p w (lexed_from text after) (atom (kind.Keyword keyword.Wildcard) p' w') rest a (sym seen.follows ∙ e) in
     absurd (clash (let z : atom (kind.Keyword keyword.Wildcard) p' w' ≡ list l.shape p l.parts l.end = l.is in cc))
@@ -140,7 +138,7 @@ in_brackets text place p after r w (constructor {a = a'} {p = p'} {q = q} {s = s
     (f c xs (record { first = s; forms = ss; shape = l.shape; end = l.end; rest = rest; follow = l.inside ∙ ap (λ l'. closed_by l' l.shape l.end rest) ep; atoms = a; name = name; derived = derived }))
 
 without : (text : List ℕ) (place : ℕ) {s : Sexp} {x : Pattern} → PatternOf s x → Atoms s → (rest : Lexed) → lexed_from text place ≡ stream s rest
-    → (r : Look) → Sees text place r → ((p after : ℕ) → r ≡ look.Open p after → ⊥) → IsHead text x head.Wildcard
+    → (r : Look) → Sees text place r → ((p after : ℕ) → r ≡ look.Open p after → ⊥) → IsHead text x None
 without text place wildcard a rest e r sees f = tt
 without text place (constructor {a = a'} {p = p'} {q = q} {s = s} {ss = ss} name derived) a rest e look.End sees f = some_token (lexed_from text place) (list a' p' (cons s ss) q) rest sees e
 without text place (constructor {a = a'} {p = p'} {q = q} {s = s} {ss = ss} name derived) a rest e (look.Open p after) sees f = f p after refl
@@ -152,8 +150,8 @@ without text place (constructor {a = a'} {p = p'} {q = q} {s = s} {ss = ss} name
     clash (let z : list a' p' (cons s ss) q ≡ atom k p sees.0 = l.0 in cc)
 
 pub bracketed : (text : List ℕ) (place p after : ℕ) (r : Bracket) (w : List ℕ) (x : Pattern) → Shows text place x
-    → Seen text place (kind.Open r) w p after → (h : Head) → ((c : Ident) (xs : List PatternPart) → HeadAt text after c xs → IsHead text (tree.constructor p c xs) h) → IsHead text x h
+    → Seen text place (kind.Open r) w p after → (h : Option Head) → ((c : Ident) (xs : List PatternPart) → HeadAt text after c xs → IsHead text (tree.constructor p c xs) h) → IsHead text x h
 bracketed text place p after r w x shows seen h f = in_brackets text place p after r w shows.derived shows.atoms shows.rest shows.follows seen h f
 
-pub bare : (text : List ℕ) (place : ℕ) (x : Pattern) → Shows text place x → (r : Look) → Sees text place r → ((p after : ℕ) → r ≡ look.Open p after → ⊥) → IsHead text x head.Wildcard
+pub bare : (text : List ℕ) (place : ℕ) (x : Pattern) → Shows text place x → (r : Look) → Sees text place r → ((p after : ℕ) → r ≡ look.Open p after → ⊥) → IsHead text x None
 bare text place x shows r sees f = without text place shows.derived shows.atoms shows.rest shows.follows r sees f

@@ -1,5 +1,5 @@
 -- What the parts of a pattern are, read off the tokens from a place on.
-use Rattle.std.specs.Prelude.{◌≡◌, ℕ, ◌+◌, ◌-◌, ◌<◌, ◌≤◌, List, [], ◌∷◌, length}
+use Rattle.std.specs.Prelude.{◌≡◌, ℕ, ◌+◌, ◌-◌, ◌<◌, ◌≤◌, List, [], ◌∷◌, length, Some, None, Option}
 use Rattle.forms.specs.Rows.{closed_by}
 use Rattle.grammar.specs.Grammar.{NameOf, PartsOf}
 use Rattle.grammar.specs.Sexps.{Sexp, Sexps, cons, AllAtoms}
@@ -7,9 +7,7 @@ use Rattle.grammar.specs.Trees.{Ident, PatternPart, bound, skipped, Pattern, wil
 use Rattle.layout.specs.Spelling.{Spells}
 use Rattle.layout.specs.declared.word.Word.{Word}
 use Rattle.patterns.specs.declared.head.Head.{Head}
-use Rattle.patterns.specs.declared.head.Head.TheVariants as head
 use Rattle.patterns.specs.declared.part.Part.{Part}
-use Rattle.patterns.specs.declared.part.Part.TheVariants as part
 use Rattle.text.specs.Tokens.{Lexed, lexed_from}
 use Rattle.text.specs.declared.bracket.Bracket.{Bracket}
 
@@ -41,26 +39,27 @@ pub record HeadAt (text : List ℕ) (place : ℕ) (c : Ident) (xs : List Pattern
   pub derived : PartsOf forms xs
 
 -- the code's view of a pattern
-abbrev pub IsHead : List ℕ → Pattern → Head → Type 0
-IsHead text (wildcard p) head.Wildcard = Unit {0}
-IsHead text (wildcard p) (head.Constructor q w inside) = ⊥
-IsHead text (constructor p c xs) head.Wildcard = ⊥
-IsHead text (constructor p c xs) (head.Constructor q w inside) = (q ≡ p) × Spells text w c × PartsAt text inside xs
+abbrev pub IsHead : List ℕ → Pattern → Option Head → Type 0
+IsHead text (wildcard p) None = Unit {0}
+IsHead text (wildcard p) (Some h) = ⊥
+IsHead text (constructor p c xs) None = ⊥
+IsHead text (constructor p c xs) (Some h) = (h.place ≡ p) × Spells text h.name c × PartsAt text h.inside xs
 
 -- a part takes up some of what is left of the text
-abbrev pub Onward : List ℕ → ℕ → Part → Type 0
-Onward text place (part.Bound w after) = (place < after) × (after ≤ length text)
-Onward text place (part.Skipped after) = (place < after) × (after ≤ length text)
-Onward text place part.End = Unit {0}
+abbrev pub Onward : List ℕ → ℕ → Option Part → Type 0
+Onward text place None = Unit {0}
+Onward text place (Some part) = (place < part.after) × (part.after ≤ length text)
+
+-- a name that is bound is this one, and a wildcard has none
+abbrev pub IsName : List ℕ → PatternPart → Option Word → Type 0
+IsName text (bound x) None = ⊥
+IsName text (bound x) (Some w) = Spells text w x
+IsName text (skipped p) None = Unit {0}
+IsName text (skipped p) (Some w) = ⊥
 
 -- the code's view of the first of these parts, and what follows it
-abbrev pub IsPart : List ℕ → List PatternPart → Part → Type 0
-IsPart text [] (part.Bound w after) = ⊥
-IsPart text [] (part.Skipped after) = ⊥
-IsPart text [] part.End = Unit {0}
-IsPart text (bound x ∷ xs) (part.Bound w after) = Spells text w x × PartsAt text after xs
-IsPart text (bound x ∷ xs) (part.Skipped after) = ⊥
-IsPart text (bound x ∷ xs) part.End = ⊥
-IsPart text (skipped p ∷ xs) (part.Bound w after) = ⊥
-IsPart text (skipped p ∷ xs) (part.Skipped after) = PartsAt text after xs
-IsPart text (skipped p ∷ xs) part.End = ⊥
+abbrev pub IsPart : List ℕ → List PatternPart → Option Part → Type 0
+IsPart text [] None = Unit {0}
+IsPart text [] (Some part) = ⊥
+IsPart text (x ∷ xs) None = ⊥
+IsPart text (x ∷ xs) (Some part) = IsName text x part.name × PartsAt text part.after xs

@@ -1,9 +1,9 @@
-// What a pattern is: a wildcard; or a constructor's name, with the pattern's own place before it and the place where its parts begin
-// behind it.
+// A constructor's pattern: its place, the constructor's name, and the place where its parts begin behind that name.
 use layout::Word;
 
-#[derive(Clone, Copy)]
-pub enum Head {
-    Wildcard,
-    Constructor(usize, Word, usize),
+#[derive(Clone, Copy, PartialEq, Eq)]
+pub struct Head {
+    pub place: usize,
+    pub name: Word,
+    pub inside: usize,
 }

@@ -1,9 +1,10 @@
-// What stands for a field, with the place behind it: a name that is bound, or a wildcard; or the end of the pattern.
+// What stands for a field of a constructor's pattern.
 use layout::Word;
 
-#[derive(Clone, Copy)]
-pub enum Part {
-    Bound(Word, usize),
-    Skipped(usize),
-    End,
+#[derive(Clone, Copy, PartialEq, Eq)]
+pub struct Part {
+    // the name that is bound; none for a wildcard
+    pub name: Option<Word>,
+    // the place behind it
+    pub after: usize,
 }

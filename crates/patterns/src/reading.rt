@@ -23,35 +23,42 @@ fn word_of(place: usize, after: usize) -> Word
 }
 
 // The pattern at a place whose constructor's name stands next.
-fn constructor_at(text: &[u8], place: usize, inside: usize) -> Head
+fn constructor_at(text: &[u8], place: usize, inside: usize) -> Option<Head>
     ensures { (c : Ident) (xs : List PatternPart) → length text.now ≤ 65535 → HeadAt text.now inside c xs → IsHead text.now (constructor place c xs) result }
 {
     match look_at(text, inside) {
-        Look::Atom(_, at, after) => Head::Constructor(place, word_of(at, after), after),
-        _ => Head::Wildcard,
+        Look::Atom(_, at, after) => Some(Head {
+            place,
+            name: word_of(at, after),
+            inside: after,
+        }),
+        _ => None,
     }
 }
 
-// The pattern that stands at a place.
-pub fn head_at(text: &[u8], place: usize) -> Head
+// The pattern that stands at a place: a constructor's, or none for a wildcard.
+pub fn head_at(text: &[u8], place: usize) -> Option<Head>
     ensures { (x : Pattern) → length text.now ≤ 65535 → Shows text.now place x → IsHead text.now x result }
 {
     match look_at(text, place) {
         Look::Open(at, inside) => constructor_at(text, at, inside),
-        _ => Head::Wildcard,
+        _ => None,
     }
 }
 
-// What stands for the next field of a pattern, from a place among its parts on.
-pub fn next_part(text: &[u8], place: usize) -> Part
+// What stands for the next field of a pattern, from a place among its parts on; none at its end.
+pub fn next_part(text: &[u8], place: usize) -> Option<Part>
     ensures forward { Onward text.now place result }
     ensures part { (xs : List PatternPart) → length text.now ≤ 65535 → PartsAt text.now place xs → IsPart text.now xs result }
 {
     match look_at(text, place) {
         Look::Atom(kind, at, after) => match kind {
-            TokenKind::Name => Part::Bound(word_of(at, after), after),
-            _ => Part::Skipped(after),
+            TokenKind::Name => Some(Part {
+                name: Some(word_of(at, after)),
+                after,
+            }),
+            _ => Some(Part { name: None, after }),
         },
-        _ => Part::End,
+        _ => None,
     }
 }

@@ -2,10 +2,17 @@
 use layout::Word;
 use type_rows::ValueType;
 
-#[derive(Clone, Copy)]
+#[derive(Clone, Copy, PartialEq, Eq)]
 pub struct Local {
     pub name: Word,
     pub kind: ValueType,
     // how many entries lie below it in a run: names, and arguments handed to waiting applications
     pub height: usize,
 }
+
+// What is read where there is no local.
+pub(crate) const NO_LOCAL: Local = Local {
+    name: Word { place: 0, size: 0 },
+    kind: ValueType::Unit,
+    height: 0,
+};

@@ -4,9 +4,7 @@ ghost use Rattle.std.specs.Prelude.{◌≡◌, ℕ, ◌<◌, ◌||◌, false, sl
 pub fn join(marks: &mut [bool; 64], others: &[bool; 64])
     ensures { (k : ℕ) → slice_index_or marks.new k false ≡ (slice_index_or marks.old k false || slice_index_or others.now k false) }
 {
-    let mut i = 0;
-    'places: while i < 64 {
-        marks[i] = marks[i] || others[i];
-        i += 1;
+    'places: for (i, other) in others.iter().enumerate() {
+        marks[i] = marks[i] || *other;
     }
 }

@@ -1,6 +1,8 @@
 // How many names are in scope, and which of them are consumed.
 ghost use Rattle.std.specs.Prelude.{◌≡◌, true, false, slice_set, slice_index_or};
 
+use entries::put;
+
 #[derive(Drop)]
 pub struct Scope {
     pub depth: usize,
@@ -23,10 +25,7 @@ impl Scope {
     pub fn is_marked(&self, k: usize) -> bool
         ensures { result ≡ slice_index_or self.now.marks k false }
     {
-        if k < 64 {
-            return self.marks[k];
-        }
-        false
+        self.marks.get(k).copied().unwrap_or(false)
     }
 
     // A name is consumed.
@@ -34,9 +33,7 @@ impl Scope {
         ensures depth { self.new.depth ≡ self.old.depth }
         ensures marks { self.new.marks ≡ slice_set self.old.marks k true }
     {
-        if k < 64 {
-            self.marks[k] = true;
-        }
+        put(&mut self.marks, k, true);
     }
 
     // A name is not consumed.
@@ -44,8 +41,6 @@ impl Scope {
         ensures depth { self.new.depth ≡ self.old.depth }
         ensures marks { self.new.marks ≡ slice_set self.old.marks k false }
     {
-        if k < 64 {
-            self.marks[k] = false;
-        }
+        put(&mut self.marks, k, false);
     }
 }

@@ -1,7 +1,7 @@
 // A row of the table of types. The parts of a function type follow it: its parameter types, then its result type.
 use super::shape::Shape;
 
-#[derive(Clone, Copy)]
+#[derive(Clone, Copy, PartialEq, Eq)]
 pub struct Row {
     pub shape: Shape,
     // the number of the row after the last of its parts
@@ -9,3 +9,10 @@ pub struct Row {
     // for a function type, the row of its result type
     pub result: u16,
 }
+
+// What is read where there is no row.
+pub(crate) const NO_ROW: Row = Row {
+    shape: Shape::Unit,
+    past: 0,
+    result: 0,
+};

@@ -4,9 +4,10 @@ ghost use Rattle.type_rows.specs.Shapes.{kind_of, ty};
 ghost use Rattle.type_rows.specs.Rows.{row_at, kind_at, RowsMean, IsKind, LookSame};
 ghost use Rattle.typing.specs.Types.{Ty, same_type};
 
-use super::row::Row;
+use super::row::{NO_ROW, Row};
 use super::shape::Shape;
 use super::value_type::ValueType;
+use entries::put;
 
 // At most 512 type expressions of a script, and four rows for each of the 33 functions of the basis.
 #[derive(Clone, Copy)]
@@ -33,14 +34,7 @@ impl Rows {
     pub fn row(&self, k: usize) -> Row
         ensures { result ≡ row_at self.now.rows k }
     {
-        if k < 644 {
-            return self.rows[k];
-        }
-        Row {
-            shape: Shape::Unit,
-            past: 0,
-            result: 0,
-        }
+        self.rows.get(k).copied().unwrap_or(NO_ROW)
     }
 
     // The type in a row.
@@ -54,9 +48,7 @@ impl Rows {
     pub fn put(&mut self, k: usize, row: Row)
         ensures { self.new.rows ≡ slice_set self.old.rows k row }
     {
-        if k < 644 {
-            self.rows[k] = row;
-        }
+        put(&mut self.rows, k, row);
     }
 
     // Whether two rows and their parts look the same.
@@ -68,12 +60,9 @@ impl Rows {
         if (self.row(y).past as usize).saturating_sub(y) != size {
             return false;
         }
-        for d in 0..size {
-            if self.row(x + d).shape != self.row(y + d).shape {
-                return false;
-            }
-        }
-        true
+        (x..x + size)
+            .zip(y..y + size)
+            .all(|(a, b)| self.row(a).shape == self.row(b).shape)
     }
 
     // Whether two types are the same.

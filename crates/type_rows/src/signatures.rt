@@ -4,7 +4,7 @@ ghost use Rattle.basis.specs.Types.{parameter_types, result_of};
 ghost use Rattle.type_rows.specs.Signatures.{basis_shape, function_row, plain_row, root_of, stored, signature_rows, HasBasis};
 ghost use Rattle.type_rows.specs.declared.value_type.ValueType.TheVariants as value;
 
-use super::row::Row;
+use super::row::{NO_ROW, Row};
 use super::rows::Rows;
 use super::shape::Shape;
 use super::value_type::ValueType;
@@ -18,14 +18,16 @@ const EACH: u16 = 4;
 // How many functions the basis has.
 const FUNCTIONS: u32 = 33;
 
-fn shape_of(kind: BasisType) -> Shape
-    ensures { result ≡ basis_shape kind }
-{
-    match kind {
-        BasisType::Int => Shape::Int,
-        BasisType::Bool => Shape::Bool,
-        BasisType::Sym => Shape::Sym,
-        BasisType::Unit => Shape::Unit,
+impl From<BasisType> for Shape {
+    ghost from_gives = { λ kind shape. shape ≡ basis_shape kind };
+
+    fn from(kind: BasisType) -> Shape {
+        match kind {
+            BasisType::Int => Shape::Int,
+            BasisType::Bool => Shape::Bool,
+            BasisType::Sym => Shape::Sym,
+            BasisType::Unit => Shape::Unit,
+        }
     }
 }
 
@@ -33,7 +35,7 @@ fn plain(past: u16, kind: BasisType) -> Row
     ensures { result ≡ plain_row past kind }
 {
     Row {
-        shape: shape_of(kind),
+        shape: kind.into(),
         past,
         result: 0,
     }
@@ -95,14 +97,10 @@ impl Rows {
         ensures { HasBasis result.rows 0 }
     {
         let mut rows = Rows {
-            rows: [Row {
-                shape: Shape::Unit,
-                past: 0,
-                result: 0,
-            }; 644],
+            rows: [NO_ROW; 644],
         };
         for n in 0..FUNCTIONS {
-            if let Some(basis) = Basis::from_number(n) {
+            if let Ok(basis) = Basis::try_from(n) {
                 rows.sign(basis);
             }
         }

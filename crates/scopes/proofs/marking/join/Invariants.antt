@@ -1,4 +1,4 @@
-use Rattle.std.proofs.Common.{◌≡◌, ℕ, ◌-◌, ◌<◌, ◌≤◌, ◌||◌, false, length, get_or}
+use Rattle.std.proofs.Common.{◌≡◌, ℕ, ◌<◌, ◌≤◌, ◌||◌, false, length, get_or}
 use Rattle.scopes.proofs.marking.join.Given as goal
 
 abbrev pub invariant-places : goal.invariant-places
@@ -7,6 +7,3 @@ invariant-places l = record {
   done : (k : ℕ) → k < l.i → get_or l.marks k false ≡ (get_or l.fn.marks k false || get_or l.others k false);
   left : (k : ℕ) → l.i ≤ k → get_or l.marks k false ≡ get_or l.fn.marks k false;
 }
-
-abbrev pub decreases-places : goal.decreases-places
-decreases-places l = 64 - l.i

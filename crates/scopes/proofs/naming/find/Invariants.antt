@@ -4,10 +4,4 @@ use Rattle.scopes.specs.Locals.{name_in}
 use Rattle.scopes.proofs.naming.find.Given as goal
 
 abbrev pub invariant-names : goal.invariant-names
-invariant-names l = record {
-  within : l.n ≤ l.depth;
-  others : (j : ℕ) → l.n ≤ j → j < l.depth → bytes_eq l.name (name_in l.text l.locals j) ≡ false;
-}
-
-abbrev pub decreases-names : goal.decreases-names
-decreases-names l = l.n
+invariant-names l = (j : ℕ) → l.k ≤ j → j < l.depth → bytes_eq l.name (name_in l.text l.locals j) ≡ false

@@ -1,9 +1,18 @@
-use Rattle.std.proofs.Common.{◌≡◌, ◌+◌, below_more, rules}
-use Rattle.type_rows.specs.Rows.{shape_at}
+use Rattle.std.proofs.Common.{◌≡◌, ◌-◌, ◌+◌, rules, arith}
+use Rattle.std.proofs.lemmas.Iterator.{cases_from_all, YieldsList-from_range, YieldsList-from_zip}
+use borrow.Author.Tests.{tests}
+use Rattle.type_rows.specs.Rows.{row_at}
+use Rattle.type_rows.proofs.LookLaws.{Alike, Unlike, looks}
 use Rattle.type_rows.proofs.rows.Rows.look_same.Goals as goal
 
-pub loop-d-preserved : goal.loop-d-preserved
-loop-d-preserved c =
+pub returns : goal.returns
+returns c =
     let rows = c.args.self.now.rows in
-    let here : shape_at rows (c.args.x + c.loop-d.d) ≡ shape_at rows (c.args.y + c.loop-d.d) = search rules in
-    below_more _ _ c.loop-d.invariant here
+    let x = c.args.x in
+    let y = c.args.y in
+    let n = c.saturating_sub-size.result in
+    let sx : (row_at rows x).past - x ≡ n = search rules in
+    let sy : (row_at rows y).past - y ≡ n = search rules in
+    looks rows x y n sx sy c.all.result
+    (cases_from_all c.all.new.self _ c.all.result (Alike rows) (Unlike rows) c.all.ensures.ran (YieldsList-from_zip (YieldsList-from_range x (x + n) n (search rules) (omega arith)) (YieldsList-from_range y (y + n) n (search rules) (omega arith)))
+    (λ p q k. search (rules, tests)) (λ p q k. search (rules, tests)))
