@@ -1,5 +1,5 @@
 -- The call of a define.
-use Rattle.std.proofs.Common.{◌≡◌, ℕ, ◌+◌, ◌⊎◌, inl, inr, List, [], ◌∷◌, ◌++◌, map, set, length, drop, Some, sym, refl, ap, ◌∙◌, subst, arith}
+use Rattle.std.proofs.Common.{◌≡◌, ℕ, ◌⊎◌, inl, inr, List, [], ◌∷◌, ◌++◌, map, set, length, drop, Some, sym, refl, ap, ◌∙◌, subst, arith}
 use Rattle.std.specs.List.{slice_get}
 use Rattle.calling.specs.Ripe.{Ripe}
 use Rattle.cells.specs.Meaning.{Cells}
@@ -9,7 +9,7 @@ use Rattle.cell_data.specs.Trees.{Trees, none}
 use Rattle.grammar.specs.Trees.{bound}
 use Rattle.machine.proofs.Arguments.{onto, Takes, takes, takes_short, taken, names_onto, Binds, binds_to, binds_unfit, bound_from_law, length_bound, called_trees, called_holds}
 use Rattle.machine.proofs.Resting.{changed}
-use Rattle.machine.specs.Holding.{values_in, is_full, holds, trees_in, names, kept}
+use Rattle.machine.specs.Holding.{values_in, holds, trees_in, names, kept}
 use Rattle.machine.specs.Mirrors.{Rests}
 use Rattle.machine.specs.Waiting.{PlacedAt, Waits, waits_body}
 use Rattle.machine.specs.declared.frame.Frame.{Frame as Waiting}

@@ -1,5 +1,6 @@
 -- What a call reads of the input, and what it prints.
-use Rattle.std.proofs.Common.{◌≡◌, ℕ, suc, ◌+◌, ◌<◌, ◌≤◌, Bool, true, false, cond, leb, List, [], ◌∷◌, ◌++◌, length, get_or, drop, ℤ, pos, negsuc, Some, None, sym, refl, ap, ◌∙◌, subst, arith}
+use Rattle.std.proofs.Common.{◌≡◌, ℕ, suc, ◌+◌, ◌<◌, ◌≤◌, Bool, true, false, cond, leb, List, [], ◌∷◌, ◌++◌, length, get_or, drop, pos, negsuc, Some, None, Option, Bor, sym, refl, ap, ◌∙◌, arith}
+use Rattle.std.specs.Option.{MatchOption, option_copied}
 use Rattle.std.proofs.lemmas.Bool.{leb-true, leb-false}
 use Rattle.std.proofs.Math.Seq.{drop-cons}
 use Rattle.std.proofs.lemmas.List.{drop_all}
@@ -43,6 +44,15 @@ next_byte input left place l e =
 -- nothing is left
 pub no_byte : (input left : List ℕ) (place : ℕ) → length input ≤ place → drop place input ≡ left → (first_byte left ≡ negsuc 0) × (later_bytes left ≡ left)
 no_byte input left place l e = let none : left ≡ [] = sym e ∙ drop_all place input l in (ap first_byte none, ap later_bytes none ∙ sym none)
+
+-- a byte is there, or none, by what a look-up at its place says
+pub byte_there : (P : Type 0) {W : Type 0} (Q : Bor ℕ → Type 0) (o : Option (Bor ℕ)) (b : ℕ) → Some b ≡ option_copied o → MatchOption o P (λ x. W × Q x) → W
+byte_there P Q None b e h = absurd (cc)
+byte_there P Q (Some x) b e h = h.0
+
+pub byte_missing : {P : Type 0} (Q : Bor ℕ → Type 0) (o : Option (Bor ℕ)) → option_copied o ≡ None → MatchOption o P Q → P
+byte_missing Q None e h = h
+byte_missing Q (Some x) e h = absurd (cc)
 
 -- the place in the input moves on
 pub under_read : {P : Program} {Z : Sizes} {m₀ m : Cells} {n : ℕ} {K : List Frame} {env : Environment} {a : Account} {r : Machine} → Under P Z m₀ n K env a r m → (place : ℕ) (left : List ℕ)

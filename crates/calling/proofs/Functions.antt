@@ -1,5 +1,5 @@
 -- Calls by their function's number; and of a symbol that is printed, the text speaks.
-use Rattle.std.proofs.Common.{◌≡◌, ℕ, zero, suc, ◌+◌, ◌-◌, ◌<◌, Bool, List, [], ◌∷◌, ◌++◌, map, length, drop, ℤ, Some, None, Ok, Err, Option, Result, sym, refl, ap, ◌∙◌, subst, arith}
+use Rattle.std.proofs.Common.{◌≡◌, ℕ, ◌-◌, Bool, List, [], ◌∷◌, ℤ, Some, None, Ok, Err, Option, Result, sym, refl, ap, subst}
 use Rattle.std.specs.List.{slice_get}
 use Rattle.basis.specs.Calls.{applied, answer, as_int, as_bool, as_sym, as_unit}
 use Rattle.basis.specs.Numbers.{numbered}
@@ -9,31 +9,19 @@ use Rattle.basis.specs.declared.function.Basis.{Basis}
 use Rattle.basis.specs.declared.function.Basis.TheVariants as basis
 use Rattle.basis.specs.declared.plain.Plain.{Plain as BasisPlain}
 use Rattle.basis.specs.declared.plain.Plain.TheVariants as plain
-use Rattle.calling.specs.Applying.{plain_value, plain_in, on_plains, last_applied, held_count, SaysApplied}
-use Rattle.calling.specs.Ripe.{Ripe}
+use Rattle.calling.specs.Applying.{plain_value, plain_in, on_plains, last_applied, SaysApplied}
 use Rattle.cells.specs.Meaning.{Cells}
 use Rattle.cells.specs.declared.values.Value.{Value}
-use Rattle.cells.specs.declared.values.Value.TheVariants.{Int, Bool as Truth, Sym, Unit as Nothing, Function, Cell}
-use Rattle.cell_data.specs.Standing.{Plain, plain_int, plain_bool, plain_symbol, plain_unit, plain_function}
+use Rattle.cell_data.specs.Standing.{plain_int, plain_bool, plain_symbol, plain_unit, plain_function}
 use Rattle.cell_data.specs.Taking.{Out, out_plain, out_cell}
-use Rattle.cell_data.specs.Trees.{Tree, Trees, none, more}
-use Rattle.grammar.specs.Trees.{Exprs}
-use Rattle.machine.proofs.Resting.{changed}
-use Rattle.machine.specs.Holding.{values_in, is_full, holds, trees_in, names, kept}
-use Rattle.machine.specs.Mirrors.{Rests, Under, Speaks}
+use Rattle.cell_data.specs.Trees.{Tree, Trees, more}
+use Rattle.machine.specs.Mirrors.{Speaks}
 use Rattle.machine.specs.Ready.{Quoted}
-use Rattle.machine.specs.Waiting.{Waits}
-use Rattle.machine.specs.declared.frame.Frame.{Frame as Waiting}
 use Rattle.machine.specs.declared.frame.Held.{Held}
 use Rattle.machine.specs.declared.frame.Held.TheVariants as held
-use Rattle.machine.specs.declared.machine.Machine.{Machine}
-use Rattle.machine.specs.declared.slot.Slot.{Slot}
-use Rattle.machine.specs.declared.slot.Slot.TheVariants.{Full}
 use Rattle.program.specs.Programs.{Program, Define}
-use Rattle.rules.specs.States.{Environment, Frame, Account, calls, argument, next_argument}
+use Rattle.rules.specs.States.{Environment, Frame, Account, calls}
 use Rattle.rules.specs.Steps.{Outcome, stuck, Sizes, take_arguments, apply, call_number, call_basis, call_define, and_plain}
-use Rattle.stack.specs.Items.{tops, room_of}
-use Rattle.stack.specs.declared.Stack.{Stack}
 
 -- What is printed is spoken for: only a symbol needs it, and only a call with one argument prints one.
 module _ (P : Program) (text : List ℕ) where

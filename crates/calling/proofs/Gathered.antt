@@ -1,9 +1,9 @@
 -- Gathering arguments, and building data of them.
-use Rattle.std.proofs.Common.{◌≡◌, ℕ, suc, ◌+◌, ◌-◌, ◌<◌, ◌≤◌, ◌⊎◌, inl, inr, ⊎_elim, Bool, true, List, [], ◌∷◌, ◌++◌, map, set, length, get_or, reverse, take, drop, min, option_map, Some, None, Option, sym, refl, ap, ◌∙◌, subst, arith}
-use Rattle.std.proofs.lemmas.List.{take_more, drop-set, reverse-append, length-reverse, length-take-le, length-map, drop-map}
+use Rattle.std.proofs.Common.{◌≡◌, ℕ, suc, ◌+◌, ◌-◌, ◌<◌, ◌⊎◌, inl, inr, ⊎_elim, true, List, [], ◌∷◌, ◌++◌, map, set, length, get_or, reverse, take, drop, min, option_map, Some, None, Option, sym, refl, ap, ◌∙◌, subst, arith}
+use Rattle.std.proofs.lemmas.List.{take_more, drop-set, reverse-append, drop-map}
 use Rattle.std.proofs.lemmas.Option.{slice_get_within, get_or_from_slice_get, slice_get-map}
 use Rattle.std.specs.List.{slice_get}
-use Rattle.calling.specs.Gathering.{Gathers, Misses}
+use Rattle.calling.specs.Gathering.{Misses}
 use Rattle.cells.specs.Meaning.{Cells, TakenAt, Full as AllLive}
 use Rattle.cells.specs.Records.{Made}
 use Rattle.cells.specs.declared.records.CellRecord.{CellRecord}
@@ -12,7 +12,7 @@ use Rattle.cells.specs.declared.values.Value.{Value}
 use Rattle.cells.specs.declared.values.Value.TheVariants.{Cell, Unit as Nothing}
 use Rattle.cell_data.proofs.Outs.{join, tally}
 use Rattle.cell_data.specs.Taking.{Out}
-use Rattle.cell_data.specs.Trees.{Tree, Trees, none, more, built, size}
+use Rattle.cell_data.specs.Trees.{Tree, Trees, none, more, built}
 use Rattle.grammar.specs.Trees.{Exprs}
 use Rattle.machine.proofs.Arguments.{onto, onto_append, Takes, takes, takes_short, taken, names_onto, turned, arguments_hold, holds_onto}
 use Rattle.machine.proofs.Building.{built_out, cell_free, cells_full}
@@ -25,12 +25,11 @@ use Rattle.machine.specs.Mirrors.{Rests}
 use Rattle.machine.specs.Waiting.{Waits}
 use Rattle.machine.specs.declared.frame.Frame.{Frame as Waiting}
 use Rattle.machine.specs.declared.machine.Machine.{Machine}
-use Rattle.machine.specs.declared.slot.Slot.{Slot}
-use Rattle.machine.specs.declared.slot.Slot.TheVariants.{Full, Empty}
+use Rattle.machine.specs.Holding.{Slot}
 use Rattle.program.specs.Programs.{Program}
 use Rattle.rules.specs.declared.fault.FaultKind.TheVariants.{TooFewCells}
-use Rattle.rules.specs.States.{Environment, Frame, Account, builds, argument, next_argument, takes as takes_cells, environment_size, saved_size, st, finished}
-use Rattle.rules.specs.Steps.{Outcome, goes, fails, stuck, Sizes, Taken, took, short, take_arguments, build, apply}
+use Rattle.rules.specs.States.{Environment, Frame, Account, builds, argument, next_argument, takes as takes_cells, st, finished}
+use Rattle.rules.specs.Steps.{goes, fails, stuck, Sizes, Taken, took, short, take_arguments, build, apply}
 use Rattle.stack.specs.Items.{tops, room_of}
 use Rattle.stack.specs.declared.Stack.{Stack}
 
@@ -49,16 +48,16 @@ gather_more fields vals held depth last v less few long within is so_far =
     ap (λ k. take (depth + 1 + 1) (drop k (set fields j v))) here ∙ (ap (take (depth + 1 + 1)) written ∙ (ap (λ k. take k (v ∷ drop (held - depth) fields)) one
     ∙ (ap (λ q. v ∷ q) so_far ∙ (sym (reverse-append (last ∷ take depth vals) (v ∷ [])) ∙ ap (λ q. reverse (last ∷ q)) (sym grown)))))
 
-full_slot : (o : _) (v : Value) → Some v ≡ full_value o → o ≡ Some (Full v)
+full_slot : (o : _) (v : Value) → Some v ≡ full_value o → o ≡ Some (Some v)
 full_slot None v e = absurd (cc)
-full_slot (Some (Full u)) v e = cc
-full_slot (Some Empty) v e = absurd (cc)
+full_slot (Some (Some u)) v e = cc
+full_slot (Some None) v e = absurd (cc)
 
 -- the value of a slot is in its row of values
 pub slot_value : (ss : List Slot) (d : ℕ) (v : Value) → Some v ≡ full_value (slice_get ss d) → (d < length ss) × (get_or (values_in ss) d Nothing ≡ v)
 slot_value ss d v e =
     let at = full_slot (slice_get ss d) v e in
-    (slice_get_within ss d (Full v) at, get_or_from_slice_get (values_in ss) d v Nothing (slice_get-map value_in ss d ∙ ap (option_map value_in) at))
+    (slice_get_within ss d (Some v) at, get_or_from_slice_get (values_in ss) d v Nothing (slice_get-map value_in ss d ∙ ap (option_map value_in) at))
 
 module _ {P : Program} {Z : Sizes} {m₀ m : Cells} {K : List Frame} {env : Environment} {a : Account} {p c k : ℕ} {es : Exprs} {v : Value} {t : Tree} {r : Machine} {top : Waiting} {others : List Waiting}
     (R : Rests P Z m₀ (next_argument p (builds c) k es ∷ K) env a (v ∷ []) (more t none) r m) (stacked : tops r.frames ≡ top ∷ others) (w : Waits P r.script.now.code (drop k (names env)) K others) where
@@ -72,8 +71,8 @@ module _ {P : Program} {Z : Sizes} {m₀ m : Cells} {K : List Frame} {env : Envi
     where
       no_slot : (o : Option Slot) → full_value o ≡ None → option_map is_full o ≡ Some true → ⊥
       no_slot None e h = cc
-      no_slot (Some (Full v)) e h = cc
-      no_slot (Some Empty) e h = cc
+      no_slot (Some (Some v)) e h = cc
+      no_slot (Some None) e h = cc
 
   pub missing : Misses k (tops r.slots) → apply P Z p (builds c) (k + 1) K (argument t ∷ env) a ≡ stuck
   unfolding apply

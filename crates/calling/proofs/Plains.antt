@@ -1,30 +1,27 @@
 -- A function of the basis on arguments of the rules, and on the values that stand for them.
-use Rattle.std.proofs.Common.{◌≡◌, ℕ, zero, suc, ◌+◌, ◌≤◌, ◌⊎◌, inl, inr, Bool, true, false, List, [], ◌∷◌, ◌++◌, map, length, drop, Some, None, Option, sym, refl, ap, ◌∙◌, subst, arith}
+use Rattle.std.proofs.Common.{◌≡◌, ℕ, zero, suc, ◌+◌, ◌≤◌, ◌⊎◌, inl, inr, List, [], ◌∷◌, ◌++◌, map, length, drop, Some, None, Option, sym, refl, ap, ◌∙◌, subst, arith}
 use Rattle.std.specs.List.{slice_get}
 use Rattle.basis.specs.Calls.{applied}
-use Rattle.basis.specs.declared.applied.Applied.{Applied}
 use Rattle.basis.specs.declared.applied.Applied.TheVariants.{Mismatch}
 use Rattle.basis.specs.declared.function.Basis.{Basis}
 use Rattle.basis.specs.declared.function.Basis.TheVariants as basis
 use Rattle.basis.specs.declared.plain.Plain.{Plain as BasisPlain}
-use Rattle.calling.specs.Applying.{plain_value, plain_in, on_plains, last_applied, held_count}
+use Rattle.calling.specs.Applying.{plain_value, on_plains, last_applied, held_count}
 use Rattle.cells.specs.Meaning.{Cells}
 use Rattle.cells.specs.declared.values.Value.{Value}
-use Rattle.cells.specs.declared.values.Value.TheVariants.{Cell}
 use Rattle.cell_data.proofs.Outs.{tally}
 use Rattle.cell_data.specs.Standing.{Plain, plain_int, plain_bool, plain_symbol, plain_unit, plain_function}
 use Rattle.cell_data.specs.Taking.{Out, out_plain, out_cell}
 use Rattle.cell_data.specs.Trees.{Tree, Trees, none, more}
 use Rattle.machine.proofs.Arguments.{Takes, takes, takes_short, taken}
-use Rattle.machine.specs.Holding.{value_in, values_in, is_full, tree_in, trees_in, holds, names, full_value}
+use Rattle.machine.specs.Holding.{values_in, is_full, trees_in, holds, names, full_value}
 use Rattle.machine.specs.Waiting.{held_of}
 use Rattle.machine.specs.declared.frame.Held.{Held}
 use Rattle.machine.specs.declared.frame.Held.TheVariants as held
-use Rattle.machine.specs.declared.slot.Slot.{Slot}
-use Rattle.machine.specs.declared.slot.Slot.TheVariants.{Full, Empty}
+use Rattle.machine.specs.Holding.{Slot}
 use Rattle.program.specs.Programs.{Program}
 use Rattle.rules.specs.States.{Entry, full, empty, argument, Environment, Frame, Account}
-use Rattle.rules.specs.Steps.{Outcome, stuck, Sizes, Taken, took, short, more_by_one, take_arguments, plain_of, and_plain, plains_of, call_basis, call_plain, answer}
+use Rattle.rules.specs.Steps.{Outcome, stuck, Sizes, Taken, took, short, take_arguments, plain_of, and_plain, plains_of, call_basis, call_plain, answer}
 
 plain_same : {v : Value} {t : Tree} → Plain v t → plain_of t ≡ plain_value v
 plain_same plain_int = refl
@@ -144,7 +141,7 @@ module _ (P : Program) (Z : Sizes) (f : Basis) (K : List Frame) (a : Account) wh
   two_by : (ss : List Slot) (w : Value) (env es : Environment) {v : Value} {t u : Tree} {m m₀ : Cells} (q r : Option BasisPlain) → plain_value v ≡ q → plain_value w ≡ r → map is_full ss ≡ map holds (env ++ es)
       → Out m (v ∷ w ∷ values_in ss) (more t (more u (trees_in (env ++ es)))) m₀
       → (call_basis P Z f K a (take_arguments 2 (argument t ∷ argument u ∷ env)) ≡ stuck)
-      ⊎ Answered held.One 1 (Full w ∷ ss) (argument u ∷ env) es v t m m₀ (call_basis P Z f K a (take_arguments 2 (argument t ∷ argument u ∷ env)))
+      ⊎ Answered held.One 1 (Some w ∷ ss) (argument u ∷ env) es v t m m₀ (call_basis P Z f K a (take_arguments 2 (argument t ∷ argument u ∷ env)))
   two_by ss w env es {v} {t} {u} None r e d h o =
       inl (two_taken t u env ∙ (ap (λ q. call_plain P Z f K env a (and_plain (plain_of u) (and_plain q (Some [])))) (plain_first o ∙ e) ∙ (ap (call_plain P Z f K env a) (and_none (plain_of u)) ∙ call_none env)))
   two_by ss w env es {v} {t} {u} (Some p) None e d h o =
@@ -178,8 +175,8 @@ module _ (P : Program) (Z : Sizes) (f : Basis) (K : List Frame) (a : Account) wh
   answered_two ss (full x u ∷ env) es {t = t} h o = inl (too_few t (full x u) env refl)
   answered_two ss (empty x ∷ env) es {t = t} h o = inl (too_few t (empty x) env refl)
   answered_two [] (argument u ∷ env) es h o = absurd (cc)
-  answered_two (Full w ∷ ss) (argument u ∷ env) es {v} h o = two_by ss w env es (plain_value v) (plain_value w) refl refl (cc) o
-  answered_two (Empty ∷ ss) (argument u ∷ env) es h o = absurd (cc)
+  answered_two (Some w ∷ ss) (argument u ∷ env) es {v} h o = two_by ss w env es (plain_value v) (plain_value w) refl refl (cc) o
+  answered_two (None ∷ ss) (argument u ∷ env) es h o = absurd (cc)
 
   many_plain : (vs : List BasisPlain) → 3 ≤ length vs → (env : Environment) → call_plain P Z f K env a (Some vs) ≡ stuck
   unfolding call_plain answer

@@ -1,6 +1,5 @@
 -- An application with all its arguments: what lies below it, and its arguments among the entries.
-use Rattle.std.proofs.Common.{◌≡◌, ℕ, suc, ◌+◌, true, List, [], ◌∷◌, ◌++◌, map, length, drop, sym, refl, ap, ◌∙◌, subst, arith}
-use Rattle.std.proofs.lemmas.List.{drop-drop}
+use Rattle.std.proofs.Common.{◌≡◌, ℕ, suc, ◌+◌, true, List, [], ◌∷◌, ◌++◌, Some, map, drop, sym, refl, ap, ◌∙◌, subst, arith}
 use Rattle.basis.specs.Calls.{applied}
 use Rattle.basis.specs.declared.function.Basis.{Basis}
 use Rattle.calling.proofs.Plains.{Answered}
@@ -8,23 +7,22 @@ use Rattle.calling.specs.Applying.{held_count}
 use Rattle.calling.specs.Ripe.{Ripe}
 use Rattle.cells.specs.Meaning.{Cells}
 use Rattle.cells.specs.declared.values.Value.{Value}
-use Rattle.cells.specs.declared.values.Value.TheVariants.{Function, Cell}
+use Rattle.cells.specs.declared.values.Value.TheVariants.{Function}
 use Rattle.cell_data.proofs.Moves.{plain_out}
 use Rattle.cell_data.specs.Standing.{plain_function}
 use Rattle.cell_data.specs.Taking.{Out}
 use Rattle.cell_data.specs.Trees.{Tree, none, more}
 use Rattle.grammar.specs.Trees.{Exprs}
 use Rattle.machine.proofs.Resting.{changed}
-use Rattle.machine.specs.Holding.{values_in, is_full, holds, trees_in, names, kept}
+use Rattle.machine.specs.Holding.{values_in, is_full, trees_in, names, kept}
 use Rattle.machine.specs.Mirrors.{Rests, Under}
 use Rattle.machine.specs.Waiting.{Waits}
 use Rattle.machine.specs.declared.frame.Frame.{Frame as Waiting}
 use Rattle.machine.specs.declared.frame.Held.{Held}
 use Rattle.machine.specs.declared.machine.Machine.{Machine}
-use Rattle.machine.specs.declared.slot.Slot.{Slot}
-use Rattle.machine.specs.declared.slot.Slot.TheVariants.{Full}
+use Rattle.machine.specs.Holding.{Slot}
 use Rattle.program.specs.Programs.{Program}
-use Rattle.rules.specs.States.{Environment, Frame, Account, head_value, next_argument, calls, argument, Target}
+use Rattle.rules.specs.States.{Environment, Frame, Account, head_value, next_argument, argument, Target}
 use Rattle.rules.specs.Steps.{Outcome, Sizes, take_arguments, call_basis, call_plain, answer}
 use Rattle.stack.specs.Items.{tops, room_of}
 use Rattle.stack.specs.declared.Stack.{Stack}
@@ -85,7 +83,7 @@ module _ {P : Program} {Z : Sizes} {m₀ m : Cells} {K : List Frame} {env : Envi
   }
 
   -- the last argument is pushed upon the others
-  pub last_ripe : (ss : Stack Slot) → room_of ss ≡ room_of r.slots → tops ss ≡ Full v ∷ tops r.slots → Ripe P Z m₀ (k + 1) K (argument t ∷ env) a (changed r r.frames ss r.control r.place r.taken r.given) m
+  pub last_ripe : (ss : Stack Slot) → room_of ss ≡ room_of r.slots → tops ss ≡ Some v ∷ tops r.slots → Ripe P Z m₀ (k + 1) K (argument t ∷ env) a (changed r r.frames ss r.control r.place r.taken r.given) m
   last_ripe ss room put =
       let more_names : drop k (names env) ≡ drop (k + 1) (names (argument t ∷ env)) = let one : suc k ≡ k + 1 = omega arith in ap (λ n. drop n (names (argument t ∷ env))) one in
       record {

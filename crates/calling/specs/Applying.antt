@@ -1,5 +1,5 @@
 -- Functions of the basis on the values that a machine holds.
-use Rattle.std.specs.Prelude.{ℕ, List, [], ◌∷◌, Some, None, Option}
+use Rattle.std.specs.Prelude.{ℕ, List, [], Some, None, Option}
 use Rattle.basis.specs.Calls.{applied as applied_to}
 use Rattle.basis.specs.declared.applied.Applied.{Applied}
 use Rattle.basis.specs.declared.applied.Applied.TheVariants.{Mismatch}

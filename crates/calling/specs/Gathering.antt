@@ -3,7 +3,7 @@ use Rattle.std.specs.Prelude.{◌≡◌, ℕ, ◌+◌, ◌<◌, ◌≤◌, List,
 use Rattle.std.specs.List.{slice_get}
 use Rattle.cells.specs.declared.values.Value.{Value}
 use Rattle.machine.specs.Holding.{values_in, full_value}
-use Rattle.machine.specs.declared.slot.Slot.{Slot}
+use Rattle.machine.specs.Holding.{Slot}
 
 -- the n values of the newest slots, and the last one, the oldest first
 pub record Gathers (n : ℕ) (ss : List Slot) (last : Value) (fields : List Value) : Type 0 where

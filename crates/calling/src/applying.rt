@@ -28,10 +28,7 @@ fn plain_of(value: Value) -> Option<Plain>
 fn newest(slots: &Stack<'_, Slot>) -> Option<Plain>
     ensures { result ≡ plain_in (full_value (slice_get (tops slots.now) 0)) }
 {
-    match value_at(slots, 0) {
-        Some(value) => plain_of(value),
-        None => None,
-    }
+    plain_of(value_at(slots, 0)?)
 }
 
 // The function on the arguments held and the last one.

@@ -5,7 +5,7 @@ ghost use Rattle.cells.specs.Meaning.{Cells};
 ghost use Rattle.cell_data.specs.Trees.{Tree, none, more};
 ghost use Rattle.grammar.specs.Trees.{Exprs};
 ghost use Rattle.machine.specs.Holding.{names};
-ghost use Rattle.machine.specs.Mirrors.{Rests, Mirrors, Moved, Steady, printed_bytes};
+ghost use Rattle.machine.specs.Mirrors.{Rests, Mirrors, Moved, Steady};
 ghost use Rattle.machine.specs.Waiting.{Waits as WaitsFor};
 ghost use Rattle.program.specs.Programs.{Program};
 ghost use Rattle.rules.specs.States.{Environment, Account, State, builds, argument, next_argument};
@@ -16,7 +16,7 @@ ghost use Rattle.stack.specs.Items.{tops};
 use cells::records::CellRecord;
 use cells::store::CellStore;
 use cells::values::Value;
-use machine::{Frame, Machine, Slot, Turn, finish, value_at};
+use machine::{Frame, Machine, Slot, value_at};
 use rules::FaultKind;
 use stack::Stack;
 
@@ -29,10 +29,7 @@ fn gather(slots: &Stack<'_, Slot>, held: usize, last: Value) -> Option<[Value; 6
     let mut fields = [unit; 6];
     fields[held] = last;
     for depth in 0..held {
-        let Some(value) = value_at(slots, depth) else {
-            return None;
-        };
-        fields[held - 1 - depth] = value;
+        fields[held - 1 - depth] = value_at(slots, depth)?;
     }
     Some(fields)
 }
@@ -44,9 +41,8 @@ pub fn build_last<S: CellStore>(
     constructor: u16,
     held: usize,
     last: Value,
-) -> Turn
+) -> Result<(), FaultKind>
     ensures steady { Steady machine.old machine.new }
-    ensures silent { printed_bytes result ≡ 0 }
     ensures law { (P : Program) (Z : Sizes) (m₀ : Cells) (s : State) (K : List Waits) (env : Environment) (a : Account) (p : ℕ) (es : Exprs) (t : Tree) (top : Frame) (others : List Frame)
         → Mirrors P Z m₀ s machine.old (S.CellStore.cells store.old)
         → Rests P Z m₀ (next_argument p (builds constructor) held es ∷ K) env a (last ∷ []) (more t none) machine.old (S.CellStore.cells store.old)
@@ -54,22 +50,13 @@ pub fn build_last<S: CellStore>(
         → Moved P Z m₀ s (apply P Z p (builds constructor) (held + 1) K (argument t ∷ env) a) result machine.new (S.CellStore.cells store.new) }
 {
     if held >= 6 {
-        return Turn::Failed(FaultKind::Stuck, None);
+        return Err(FaultKind::Stuck);
     }
-    let Some(fields) = gather(&machine.slots, held, last) else {
-        return Turn::Failed(FaultKind::Stuck, None);
-    };
-    let size = held + 1;
-    let Some(contents) = CellRecord::new(constructor, &fields[..size]) else {
-        return Turn::Failed(FaultKind::Stuck, None);
-    };
-    match store.take(contents) {
-        Ok(cell) => {
-            machine.frames.cut(1);
-            machine.slots.cut(held);
-            machine.taken = machine.taken.saturating_add(1);
-            finish(machine, Value::cell(cell))
-        }
-        Err(_) => Turn::Failed(FaultKind::TooFewCells, None),
-    }
+    let fields = gather(&machine.slots, held, last).ok_or(FaultKind::Stuck)?;
+    let contents = CellRecord::new(constructor, &fields[..held + 1]).ok_or(FaultKind::Stuck)?;
+    let cell = store.take(contents)?;
+    machine.frames.cut(1);
+    machine.slots.cut(held);
+    machine.taken = machine.taken.saturating_add(1);
+    machine.finish(Value::cell(cell))
 }

@@ -7,7 +7,7 @@ ghost use Rattle.cells.specs.Meaning.{Cells};
 ghost use Rattle.cell_data.specs.Trees.{Tree, none, more};
 ghost use Rattle.grammar.specs.Trees.{Exprs};
 ghost use Rattle.machine.specs.Holding.{names};
-ghost use Rattle.machine.specs.Mirrors.{Rests, Mirrors, Moved, Printed, Steady, Spares, Speaks, printed_bytes};
+ghost use Rattle.machine.specs.Mirrors.{Rests, Mirrors, Moved, Printed, Steady, Spares, Speaks};
 ghost use Rattle.machine.specs.Waiting.{PlacedAt, held_of};
 ghost use Rattle.machine.specs.Waiting.{Waits as WaitsFor};
 ghost use Rattle.program.specs.Programs.{Program, Define};
@@ -20,7 +20,7 @@ use super::applying::applied_last;
 use super::concluding::conclude;
 use basis::{Basis, apply_none};
 use cells::values::Value;
-use machine::{Frame, Held, Machine, Slot, Turn, function_at, go};
+use machine::{Frame, Halt, Held, Machine, Slot, function_at, unprinted};
 use rules::FaultKind;
 
 // The functions of the basis come first.
@@ -38,16 +38,19 @@ fn count_of(held: Held) -> usize
 }
 
 // A define is called: its arguments become its names, in the same entries, and its body is next.
-fn enter_body(machine: &mut Machine<'_, '_, '_, '_, '_>, at: u16, number: usize) -> Turn
+fn enter_body(
+    machine: &mut Machine<'_, '_, '_, '_, '_>,
+    at: u16,
+    number: usize,
+) -> Result<(), FaultKind>
     ensures steady { Steady machine.old machine.new }
-    ensures silent { printed_bytes result ≡ 0 }
     ensures law { (P : Program) (Z : Sizes) (m₀ m : Cells) (s : State) (k : ℕ) (K : List Waits) (env : Environment) (a : Account) (p : ℕ) (d : Define)
         → Ripe P Z m₀ k K env a machine.old m → PlacedAt P machine.old.script.now.code at p → slice_get P.defines number ≡ Some d
         → Moved P Z m₀ s (call_define P Z p d K a (take_arguments k env)) result machine.new m }
 {
     let function = function_at(machine.script, number);
     machine.frames.replace_top(Frame::Body(at, function.arity));
-    go(machine, function.body)
+    machine.go(function.body)
 }
 
 // A function without arguments is called.
@@ -56,7 +59,7 @@ pub fn call_bare(
     out: &mut [u8],
     at: u16,
     function: u32,
-) -> Turn
+) -> Result<usize, Halt>
     ensures steady { Steady machine.old machine.new }
     ensures spares { Spares result out.old out.new }
     ensures law { (P : Program) (Z : Sizes) (m₀ m : Cells) (s : State) (K : List Waits) (env : Environment) (a : Account) (p : ℕ) (es : Exprs) (t : Tree) (top : Frame) (others : List Frame)
@@ -64,9 +67,9 @@ pub fn call_bare(
         → tops machine.old.frames ≡ top ∷ others → WaitsFor P machine.old.script.now.code (names env) K others → PlacedAt P machine.old.script.now.code at p
         → Printed P Z m₀ s out.old (apply P Z p (calls function) 0 K env a) result machine.new m out.new }
 {
-    match Basis::from_number(function) {
-        Some(basis) => conclude(machine, out, basis, 0, apply_none(basis)),
-        None => enter_body(machine, at, function as usize - BASIS as usize),
+    match Basis::try_from(function) {
+        Ok(basis) => conclude(machine, out, basis, 0, apply_none(basis)),
+        Err(_) => unprinted(enter_body(machine, at, function as usize - BASIS as usize)),
     }
 }
 
@@ -78,7 +81,7 @@ pub fn call(
     function: u32,
     held: Held,
     last: Value,
-) -> Turn
+) -> Result<usize, Halt>
     ensures steady { Steady machine.old machine.new }
     ensures spares { Spares result out.old out.new }
     ensures law { (P : Program) (Z : Sizes) (m₀ m : Cells) (s : State) (k : ℕ) (K : List Waits) (env : Environment) (a : Account) (p : ℕ) (es : Exprs) (t : Tree) (top : Frame) (others : List Frame)
@@ -87,16 +90,14 @@ pub fn call(
         → held ≡ held_of k → length (tops machine.old.slots) < room_of machine.old.slots → Speaks P machine.old.text.now t
         → Printed P Z m₀ s out.old (apply P Z p (calls function) (k + 1) K (argument t ∷ env) a) result machine.new m out.new }
 {
-    match Basis::from_number(function) {
-        Some(basis) => {
+    match Basis::try_from(function) {
+        Ok(basis) => {
             let applied = applied_last(&machine.slots, basis, held, last);
             conclude(machine, out, basis, count_of(held), applied)
         }
-        None => {
-            let Ok(_) = machine.slots.push(Slot::Full(last)) else {
-                return Turn::Failed(FaultKind::StackFull, None);
-            };
-            enter_body(machine, at, function as usize - BASIS as usize)
+        Err(_) => {
+            machine.slots.push(Some(last))?;
+            unprinted(enter_body(machine, at, function as usize - BASIS as usize))
         }
     }
 }

@@ -1,28 +1,27 @@
 -- A local name's value is read, or copied.
-use Rattle.std.proofs.Common.{◌≡◌, ℕ, ◌+◌, ◌-◌, ◌<◌, ◌≤◌, List, [], ◌∷◌, ◌++◌, map, set, length, min, Some, None, Ok, Err, Result, sym, refl, ap, ◌∙◌, subst, arith}
+use Rattle.std.proofs.Common.{◌≡◌, ℕ, ◌+◌, ◌-◌, ◌<◌, ◌≤◌, List, [], ◌∷◌, ◌++◌, map, set, min, Some, Ok, Err, sym, refl, ap, ◌∙◌, subst, arith}
 use Rattle.std.specs.List.{slice_get}
 use Rattle.cells.specs.Meaning.{Cells, count_live}
 use Rattle.cells.specs.declared.values.Value.{Value}
 use Rattle.cell_data.proofs.Moves.{copy_held}
-use Rattle.cell_data.proofs.Outs.{join, joined, out_count}
+use Rattle.cell_data.proofs.Outs.{joined, out_count}
 use Rattle.cell_data.specs.Taking.{Out}
 use Rattle.cell_data.specs.Trees.{Tree, none, more, size}
 use Rattle.cell_data.specs.Walks.{Copies}
 use Rattle.cell_data.specs.declared.refusals.WalkRefusal.{WalkRefusal}
-use Rattle.cell_data.specs.declared.refusals.WalkRefusal.TheVariants.{NoFreeCell, Stuck}
-use Rattle.grammar.specs.Trees.{Expr}
+use Rattle.cell_data.specs.declared.refusals.WalkRefusal.TheVariants.{NoFreeCell}
 use Rattle.machine.proofs.Cells.{live_cells, capped_add}
 use Rattle.machine.proofs.Names.{found, left_names, front_get, front_set}
-use Rattle.machine.proofs.Resting.{changed, entered, renewed, reslotted}
+use Rattle.machine.proofs.Resting.{changed, renewed, reslotted}
 use Rattle.machine.proofs.Rows.{used, focus, alone}
 use Rattle.machine.specs.Holding.{values_in, is_full, holds, trees_in, names, kept, slot_left, full_value}
-use Rattle.machine.specs.Mirrors.{Rests, Mirrors}
+use Rattle.machine.specs.Mirrors.{Rests}
 use Rattle.machine.specs.declared.machine.Machine.{Machine}
-use Rattle.machine.specs.declared.slot.Slot.{Slot}
+use Rattle.machine.specs.Holding.{Slot}
 use Rattle.program.specs.Programs.{Program, Name}
 use Rattle.program.specs.Scopes.{distance}
-use Rattle.rules.specs.States.{full, Environment, Frame, Account, st, enter, takes, environment_size, saved_size}
-use Rattle.rules.specs.Steps.{Sizes, Looked, got, left, look}
+use Rattle.rules.specs.States.{full, Environment, Frame, Account, takes, environment_size, saved_size}
+use Rattle.rules.specs.Steps.{Sizes, got, left, look}
 use Rattle.stack.specs.Items.{tops, room_of}
 use Rattle.stack.specs.declared.Stack.{Stack}
 

@@ -1,5 +1,6 @@
 -- Which expression stands at a node, by what the node does.
-use Rattle.std.proofs.Common.{◌≡◌, ℕ, suc, ◌+◌, ◌<◌, true, false, cond, List, [], ◌∷◌, Some, None, Bool, ℤ, Option, length, nat_lt, sym, refl, ap, ◌∙◌, subst, arith}
+use Rattle.std.specs.Prelude.{⊤, Result}
+use Rattle.std.proofs.Common.{◌≡◌, ℕ, ◌+◌, ◌<◌, cond, List, [], ◌∷◌, Some, None, Bool, ℤ, Option, length, nat_lt, refl, ap, ◌∙◌, arith}
 use Rattle.std.specs.List.{slice_get}
 use Rattle.grammar.specs.Trees as tree
 use Rattle.grammar.specs.Trees.{Ident, Expr, Exprs, no_exprs, and_expr, Bindings, Branches}
@@ -11,7 +12,7 @@ use Rattle.machine.specs.Holding.{names}
 use Rattle.machine.specs.Mirrors.{Mirrors, Moved}
 use Rattle.machine.specs.Waiting.{PlacedAt}
 use Rattle.machine.specs.declared.machine.Machine.{Machine}
-use Rattle.machine.specs.declared.turn.Turn.{Turn}
+use Rattle.rules.specs.declared.fault.FaultKind.{FaultKind}
 use Rattle.program.specs.Compiling.{argument_count, binding_count, let_scope}
 use Rattle.program.specs.Programs as means
 use Rattle.program.specs.Programs.{Program, Name, Global, Val, global_of}
@@ -132,7 +133,7 @@ module _ (P : Program) (Z : Sizes) (p c : ℕ) (K : List Frame) (env : Environme
   construct_some (stands.arguments_more l x r) h g = g _ _ refl l x r
 
 -- what entering an expression is to a machine
-abbrev pub Enters : Program → Sizes → Cells → List Frame → Environment → Account → Machine → Cells → Turn → Machine → Cells → Expr → Type 0
+abbrev pub Enters : Program → Sizes → Cells → List Frame → Environment → Account → Machine → Cells → Result ⊤ FaultKind → Machine → Cells → Expr → Type 0
 Enters P Z m₀ K env a r m t r' m' e = Mirrors P Z m₀ (st K env (enter e) a) r m → Moved P Z m₀ (st K env (enter e) a) (enter_expr P Z K env a e) t r' m'
 
 -- no other node stands for an expression

@@ -4,7 +4,7 @@ ghost use Rattle.cells.specs.Meaning.{Cells};
 ghost use Rattle.cell_data.specs.Trees.{none};
 ghost use Rattle.grammar.specs.Trees.{Expr, Exprs};
 ghost use Rattle.machine.specs.Holding.{names};
-ghost use Rattle.machine.specs.Mirrors.{Mirrors, Moved, Steady, printed_bytes};
+ghost use Rattle.machine.specs.Mirrors.{Mirrors, Moved, Steady};
 ghost use Rattle.machine.specs.Waiting.{PlacedAt};
 ghost use Rattle.program.specs.Compiling.{argument_count};
 ghost use Rattle.program.specs.Programs.{Program};
@@ -16,7 +16,7 @@ ghost use Rattle.rules.specs.Steps.{Sizes, took, build, enter_construct};
 use cells::records::CellRecord;
 use cells::store::CellStore;
 use cells::values::Value;
-use machine::{Frame, Machine, Turn, code_at, finish, wait};
+use machine::{Frame, Machine, code_at};
 use program::Op;
 use rules::FaultKind;
 
@@ -25,20 +25,15 @@ fn build_bare<S: CellStore>(
     machine: &mut Machine<'_, '_, '_, '_, '_>,
     store: &mut S,
     constructor: u16,
-) -> Turn
+) -> Result<(), FaultKind>
     ensures steady { Steady machine.old machine.new }
-    ensures silent { printed_bytes result ≡ 0 }
     ensures law { (P : Program) (Z : Sizes) (m₀ : Cells) (K : List Waits) (env : Environment) (a : Account) (e : Expr)
         → Mirrors P Z m₀ (st K env (enters e) a) machine.old (S.CellStore.cells store.old)
         → Moved P Z m₀ (st K env (enters e) a) (build P Z constructor K env a (took none env)) result machine.new (S.CellStore.cells store.new) }
 {
-    match store.take(CellRecord::bare(constructor)) {
-        Ok(cell) => {
-            machine.taken = machine.taken.saturating_add(1);
-            finish(machine, Value::cell(cell))
-        }
-        Err(_) => Turn::Failed(FaultKind::TooFewCells, None),
-    }
+    let cell = store.take(CellRecord::bare(constructor))?;
+    machine.taken = machine.taken.saturating_add(1);
+    machine.finish(Value::cell(cell))
 }
 
 // With fields it waits for the first of them; its name at the head is not entered.
@@ -48,9 +43,8 @@ pub fn enter_build<S: CellStore>(
     at: u16,
     constructor: u16,
     count: u16,
-) -> Turn
+) -> Result<(), FaultKind>
     ensures steady { Steady machine.old machine.new }
-    ensures silent { printed_bytes result ≡ 0 }
     ensures law { (P : Program) (Z : Sizes) (m₀ : Cells) (K : List Waits) (env : Environment) (a : Account) (e : Expr) (p : ℕ) (es : Exprs)
         → Mirrors P Z m₀ (st K env (enters e) a) machine.old (S.CellStore.cells store.old)
         → PlacedAt P machine.old.script.now.code at p → (code_there P machine.old.script.now.code at).op ≡ Op.Build constructor count → argument_count es ≡ count
@@ -62,5 +56,5 @@ pub fn enter_build<S: CellStore>(
     }
     let first = code_at(machine.script, at as usize + 1).past;
     let next = code_at(machine.script, first as usize).past;
-    wait(machine, Frame::Field(at, next), first)
+    machine.wait(Frame::Field(at, next), first)
 }

@@ -14,7 +14,7 @@ use Rattle.machine.specs.Mirrors.{Rests}
 use Rattle.machine.specs.Waiting.{Waits}
 use Rattle.machine.specs.declared.frame.Frame.{Frame as Waiting}
 use Rattle.machine.specs.declared.machine.Machine.{Machine}
-use Rattle.machine.specs.declared.slot.Slot.{Slot}
+use Rattle.machine.specs.Holding.{Slot}
 use Rattle.program.specs.Programs.{Program}
 use Rattle.rules.specs.States.{full, empty, argument, Environment, Frame, Account, body_value, gives, environment_size}
 use Rattle.rules.specs.Steps.{Sizes, Bound, binds, unfit, giving, leave_names}

@@ -15,8 +15,7 @@ use Rattle.handing.proofs.Left.{capped_more}
 use Rattle.handing.proofs.Patterns.{lowest_bound, lowest_skipped}
 use Rattle.handing.specs.Binding.{BindsFields}
 use Rattle.machine.specs.Holding.{value_in, is_full, values_in, holds, trees_in, capped}
-use Rattle.machine.specs.declared.slot.Slot.{Slot}
-use Rattle.machine.specs.declared.slot.Slot.TheVariants.{Full}
+use Rattle.machine.specs.Holding.{Slot}
 use Rattle.program.specs.Scopes.{bits, names_inside}
 use Rattle.rules.specs.States.{full, Environment}
 use Rattle.rules.specs.Steps.{Bound, binds, unfit, giving, bind_parts}
@@ -40,7 +39,7 @@ pub record Fitting (fields : List Value) (mask total room : ℕ) (slots : List S
 -- The first field of those left, by whether it is bound.
 pub record Names (v : Value) (fields : List Value) (mask total room : ℕ) (slots : List Slot) (after : Environment) (n : ℕ) (m m₀ : Cells) : Type 0 where
   pub room_for : length slots < room
-  pub named : Fitting fields (mask / 2) total room (Full v ∷ slots) after n m m₀
+  pub named : Fitting fields (mask / 2) total room (Some v ∷ slots) after n m m₀
 
 pub record Drops (v : Value) (fields : List Value) (mask total room : ℕ) (slots : List Slot) (after : Environment) (n : ℕ) (m m₀ : Cells) : Type 0 where
   pub tree : Tree
@@ -144,7 +143,7 @@ more_none {fields} {mask} {total} {room} {slots} {after} {n} {m} {m₀} F =
     subst (λ t. Fitting fields mask t room slots after n m m₀) e F
 
 pub turned : {v : Value} {fields : List Value} {mask total room room' : ℕ} {slots slots' : List Slot} {after : Environment} {n : ℕ} {m m' m₀ : Cells} {answer : Option ℕ} → room' ≡ room → Fitting (v ∷ fields) mask total room slots after n m m₀
-    → ((mask % 2 == 1) ≡ true → length slots < room' → (answer ≡ Some 0) × (slots' ≡ Full v ∷ slots) × (m' ≡ m))
+    → ((mask % 2 == 1) ≡ true → length slots < room' → (answer ≡ Some 0) × (slots' ≡ Some v ∷ slots) × (m' ≡ m))
     → ((mask % 2 == 1) ≡ false → (m₀ : Cells) (vs : List Value) (t : Tree) (ts : Trees) → Out m (v ∷ vs) (more t ts) m₀ → (answer ≡ Some (size t)) × (slots' ≡ slots) × Out m' vs ts m₀)
     → Turned fields (mask / 2) total room slots' after n m' m₀ answer
 turned {v} {fields} {mask} {total} {room} {room'} {slots} {slots'} {after} {n} {m} {m'} {m₀} {answer} same F named other =
@@ -155,7 +154,7 @@ turned {v} {fields} {mask} {total} {room} {room'} {slots} {slots'} {after} {n} {
           record {
             number = 0;
             is = h.0;
-            left = subst (λ ss. Fitting fields (mask / 2) (min (total + 0) 18446744073709551615) room ss after n m' m₀) (sym h.1) (subst (λ m. Fitting fields (mask / 2) (min (total + 0) 18446744073709551615) room (Full v ∷ slots) after n m m₀) (sym h.2) (more_none N.named));
+            left = subst (λ ss. Fitting fields (mask / 2) (min (total + 0) 18446744073709551615) room ss after n m' m₀) (sym h.1) (subst (λ m. Fitting fields (mask / 2) (min (total + 0) 18446744073709551615) room (Some v ∷ slots) after n m m₀) (sym h.2) (more_none N.named));
           }
       | false ↦ λ e.
           let D = first_dropped F e in

@@ -10,7 +10,7 @@ use Rattle.cell_data.specs.Taking.{Out}
 use Rattle.cell_data.specs.Trees.{Trees, none, more, size, sizes}
 use Rattle.machine.proofs.Cells.{row_append}
 use Rattle.machine.specs.Holding.{value_in, values_in, tree_in, trees_in, capped}
-use Rattle.machine.specs.declared.slot.Slot.{Slot}
+use Rattle.machine.specs.Holding.{Slot}
 use Rattle.rules.specs.States.{Entry, empty, Environment}
 
 -- the first entry of those that are left

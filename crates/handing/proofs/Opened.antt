@@ -21,7 +21,7 @@ use Rattle.machine.specs.Waiting.{PlacedAt, Waits, waits_leaving, waits_tested}
 use Rattle.machine.specs.declared.frame.Frame.{Frame as Waiting}
 use Rattle.machine.specs.declared.frame.Frame.TheVariants.{Tested, Leaving}
 use Rattle.machine.specs.declared.machine.Machine.{Machine}
-use Rattle.machine.specs.declared.slot.Slot.{Slot}
+use Rattle.machine.specs.Holding.{Slot}
 use Rattle.program.specs.Programs.{Program}
 use Rattle.program.specs.Scopes.{Scope, names_inside}
 use Rattle.program.specs.Standing.{past, StandsBranches}

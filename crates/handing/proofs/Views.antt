@@ -1,4 +1,5 @@
 -- What a frame of a kind waits for.
+use Rattle.std.specs.Prelude.{⊤, Result}
 use Rattle.std.proofs.Common.{◌≡◌, ℕ, ◌+◌, ◌<◌, ◌≤◌, List, [], ◌∷◌, length, drop, Some, None, refl, subst, arith}
 use Rattle.cells.specs.Meaning.{Cells}
 use Rattle.cells.specs.declared.values.Value.{Value}
@@ -12,7 +13,8 @@ use Rattle.machine.specs.declared.frame.Frame.{Frame as Waiting}
 use Rattle.machine.specs.declared.frame.Frame.TheVariants as waiting
 use Rattle.machine.specs.declared.frame.Held.{Held}
 use Rattle.machine.specs.declared.machine.Machine.{Machine}
-use Rattle.machine.specs.declared.turn.Turn.{Turn}
+use Rattle.machine.specs.declared.halt.Halt.{Halt}
+use Rattle.rules.specs.declared.fault.FaultKind.{FaultKind}
 use Rattle.program.specs.Compiling.{argument_count, binding_count, let_scope}
 use Rattle.program.specs.Programs.{Program, Define}
 use Rattle.program.specs.Scopes.{Scope}
@@ -24,10 +26,10 @@ use Rattle.rules.specs.States.{Environment, Frame, Account, st, finished, calls,
 use Rattle.rules.specs.Steps.{Sizes, hand}
 
 -- what handing a value over is to a machine
-abbrev pub HandedBy : Program → Sizes → Cells → List Frame → Environment → Account → Tree → Machine → Cells → Turn → Machine → Cells → Frame → Type 0
+abbrev pub HandedBy : Program → Sizes → Cells → List Frame → Environment → Account → Tree → Machine → Cells → Result ⊤ FaultKind → Machine → Cells → Frame → Type 0
 HandedBy P Z m₀ K env a t r m turn r' m' f = Mirrors P Z m₀ (st (f ∷ K) env (finished t) a) r m → Moved P Z m₀ (st (f ∷ K) env (finished t) a) (hand P Z f K env a t) turn r' m'
 
-abbrev pub HandedOut : Program → Sizes → Cells → List Frame → Environment → Account → Tree → Machine → Cells → List ℕ → Turn → Machine → Cells → List ℕ → Frame → Type 0
+abbrev pub HandedOut : Program → Sizes → Cells → List Frame → Environment → Account → Tree → Machine → Cells → List ℕ → Result ℕ Halt → Machine → Cells → List ℕ → Frame → Type 0
 HandedOut P Z m₀ K env a t r m old turn r' m' new f = Mirrors P Z m₀ (st (f ∷ K) env (finished t) a) r m → Printed P Z m₀ (st (f ∷ K) env (finished t) a) old (hand P Z f K env a t) turn r' m' new
 
 module _ {P : Program} {Z : Sizes} {m₀ m : Cells} {f : Frame} {K : List Frame} {env : Environment} {a : Account} {t : Tree} {v : Value} {r : Machine} where

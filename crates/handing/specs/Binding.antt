@@ -3,7 +3,7 @@ use Rattle.std.specs.Prelude.{◌≡◌, ℕ, List, map, Some, Option}
 use Rattle.cells.specs.Meaning.{Cells}
 use Rattle.cell_data.specs.Taking.{Out}
 use Rattle.machine.specs.Holding.{is_full, values_in, holds, trees_in, capped}
-use Rattle.machine.specs.declared.slot.Slot.{Slot}
+use Rattle.machine.specs.Holding.{Slot}
 use Rattle.rules.specs.States.{Environment}
 
 -- The slots stand for the entries afterwards, and nothing else is held: the answer is how many cells are given back, as far as that goes.

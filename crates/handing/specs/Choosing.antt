@@ -1,5 +1,5 @@
 -- The branch of a case that fits data.
-use Rattle.std.specs.Prelude.{◌≡◌, ℕ, ◌+◌, ◌<◌, List, ◌∷◌, [], None}
+use Rattle.std.specs.Prelude.{◌≡◌, ℕ, ◌+◌, ◌<◌, List, ◌∷◌, [], None, Some, Option}
 use Rattle.cell_data.specs.Trees.{Trees, cost, size, built}
 use Rattle.grammar.specs.Trees.{PatternPart, Expr, Branches}
 use Rattle.handing.specs.declared.choice.Choice.{Choice}
@@ -36,7 +36,7 @@ module _ (P : Program) (cs : List Code) (G : Scope) (bs : Branches) (c : ℕ) wh
   pub record ChosenNone : Type 0 where
     pub is : (Z : Sizes) (p : ℕ) (vs : Trees) (K : List Frame) (env : Environment) (a : Account) → select_branch P Z p bs c vs K env a ≡ fails NoBranch None
 
-  abbrev pub Chosen : Choice → Type 0
-  Chosen choice.None = ChosenNone
-  Chosen (choice.Any i) = ChosenAny i
-  Chosen (choice.Fields i mask) = ChosenFields i mask
+  abbrev pub Chosen : Option Choice → Type 0
+  Chosen None = ChosenNone
+  Chosen (Some (choice.Any i)) = ChosenAny i
+  Chosen (Some (choice.Fields i mask)) = ChosenFields i mask

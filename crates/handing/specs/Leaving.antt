@@ -6,7 +6,7 @@ use Rattle.cell_data.proofs.Outs.{join}
 use Rattle.cell_data.specs.Taking.{Out}
 use Rattle.cell_data.specs.Trees.{Trees, sizes}
 use Rattle.machine.specs.Holding.{values_in, trees_in, capped}
-use Rattle.machine.specs.declared.slot.Slot.{Slot}
+use Rattle.machine.specs.Holding.{Slot}
 use Rattle.rules.specs.States.{Environment}
 
 -- The newest n entries are dropped, the values vs stand as before: the answer is how many cells are given back, as far as that goes.

@@ -2,7 +2,7 @@
 ghost use Rattle.std.specs.Prelude.{◌≡◌, ℕ, ◌+◌, List, ◌∷◌};
 ghost use Rattle.cells.specs.Meaning.{Cells};
 ghost use Rattle.cell_data.specs.Trees.{Tree};
-ghost use Rattle.machine.specs.Mirrors.{Hands, Moved, Printed, Steady, Spares, Speaks, printed_bytes};
+ghost use Rattle.machine.specs.Mirrors.{Hands, Moved, Printed, Steady, Spares, Speaks};
 ghost use Rattle.machine.specs.Waiting.{held_of};
 ghost use Rattle.program.specs.Programs.{Program};
 ghost use Rattle.rules.specs.States.{Environment, Account, st};
@@ -12,7 +12,7 @@ ghost use Rattle.rules.specs.Steps.{Sizes, hand};
 use calling::{build_last, call, call_bare};
 use cells::store::CellStore;
 use cells::values::Value;
-use machine::{Frame, Held, Machine, Slot, Turn, code_at, go};
+use machine::{Frame, Halt, Held, Machine, Slot, code_at, unprinted};
 use program::Op;
 use rules::FaultKind;
 
@@ -33,7 +33,7 @@ pub fn hand_head(
     out: &mut [u8],
     at: u16,
     value: Value,
-) -> Turn
+) -> Result<usize, Halt>
     ensures steady { Steady machine.old machine.new }
     ensures spares { Spares result out.old out.new }
     ensures law { (P : Program) (Z : Sizes) (m₀ m : Cells) (f : Waits) (K : List Waits) (env : Environment) (a : Account) (t : Tree)
@@ -41,7 +41,7 @@ pub fn hand_head(
         → Printed P Z m₀ (st (f ∷ K) env (has_finished t) a) out.old (hand P Z f K env a t) result machine.new m out.new }
 {
     let Value::Function(function) = value else {
-        return Turn::Failed(FaultKind::Stuck, None);
+        return Err(Halt::from(FaultKind::Stuck));
     };
     let past = code_at(machine.script, at as usize).past;
     let first = code_at(machine.script, at as usize + 1).past;
@@ -50,7 +50,7 @@ pub fn hand_head(
         machine
             .frames
             .replace_top(Frame::Argument(at, next, Held::None, function));
-        return go(machine, first);
+        return unprinted(machine.go(first));
     }
     call_bare(machine, out, at, function)
 }
@@ -64,7 +64,7 @@ pub fn hand_argument(
     held: Held,
     function: u32,
     value: Value,
-) -> Turn
+) -> Result<usize, Halt>
     ensures steady { Steady machine.old machine.new }
     ensures spares { Spares result out.old out.new }
     ensures law { (P : Program) (Z : Sizes) (m₀ m : Cells) (f : Waits) (K : List Waits) (env : Environment) (a : Account) (t : Tree)
@@ -72,18 +72,16 @@ pub fn hand_argument(
         → Printed P Z m₀ (st (f ∷ K) env (has_finished t) a) out.old (hand P Z f K env a t) result machine.new m out.new }
 {
     if machine.slots.len() >= machine.slots.room() {
-        return Turn::Failed(FaultKind::StackFull, None);
+        return Err(Halt::Failed(FaultKind::StackFull, None));
     }
     let past = code_at(machine.script, at as usize).past;
     if next < past {
-        let Ok(_) = machine.slots.push(Slot::Full(value)) else {
-            return Turn::Failed(FaultKind::StackFull, None);
-        };
+        machine.slots.push(Some(value))?;
         let later = code_at(machine.script, next as usize).past;
         machine
             .frames
             .replace_top(Frame::Argument(at, later, one_more(held), function));
-        return go(machine, next);
+        return unprinted(machine.go(next));
     }
     call(machine, out, at, function, held, value)
 }
@@ -95,32 +93,29 @@ pub fn hand_field<S: CellStore>(
     at: u16,
     next: u16,
     value: Value,
-) -> Turn
+) -> Result<(), FaultKind>
     ensures steady { Steady machine.old machine.new }
-    ensures silent { printed_bytes result ≡ 0 }
     ensures law { (P : Program) (Z : Sizes) (m₀ : Cells) (f : Waits) (K : List Waits) (env : Environment) (a : Account) (t : Tree)
         → Hands P Z m₀ f K env a t (Frame.Field at next) value machine.old (S.CellStore.cells store.old)
         → Moved P Z m₀ (st (f ∷ K) env (has_finished t) a) (hand P Z f K env a t) result machine.new (S.CellStore.cells store.new) }
 {
     if machine.slots.len() >= machine.slots.room() {
-        return Turn::Failed(FaultKind::StackFull, None);
+        return Err(FaultKind::StackFull);
     }
     let code = code_at(machine.script, at as usize);
     if next < code.past {
-        let Ok(_) = machine.slots.push(Slot::Full(value)) else {
-            return Turn::Failed(FaultKind::StackFull, None);
-        };
+        machine.slots.push(Some(value))?;
         let later = code_at(machine.script, next as usize).past;
         machine.frames.replace_top(Frame::Field(at, later));
-        return go(machine, next);
+        return machine.go(next);
     }
     match code.op {
         Op::Build(constructor, count) => {
             if count == 0 {
-                return Turn::Failed(FaultKind::Stuck, None);
+                return Err(FaultKind::Stuck);
             }
             build_last(machine, store, constructor, count as usize - 1, value)
         }
-        _ => Turn::Failed(FaultKind::Stuck, None),
+        _ => Err(FaultKind::Stuck),
     }
 }

@@ -6,7 +6,7 @@ ghost use Rattle.cell_data.specs.Trees.{Tree, Trees, built};
 ghost use Rattle.grammar.specs.Trees.{Branches};
 ghost use Rattle.handing.specs.Choosing.{ChosenAny, ChosenFields};
 ghost use Rattle.machine.specs.Holding.{names};
-ghost use Rattle.machine.specs.Mirrors.{Hands, Moved, Steady, printed_bytes};
+ghost use Rattle.machine.specs.Mirrors.{Hands, Moved, Steady};
 ghost use Rattle.program.specs.Programs.{Program};
 ghost use Rattle.rules.specs.States.{Environment, Account, st, case_test};
 ghost use Rattle.rules.specs.States.{Frame as Waits, finished as has_finished};
@@ -19,7 +19,7 @@ use cell_data::drops::drop_value;
 use cells::records::CellRecord;
 use cells::store::CellStore;
 use cells::values::Value;
-use machine::{Frame, Machine, Turn, after, code_at, go};
+use machine::{Frame, Machine, after, code_at};
 use rules::FaultKind;
 
 // The record of the cell with this number, if it is live.
@@ -30,10 +30,7 @@ fn record_of<S: CellStore>(store: &S, number: u32) -> Option<CellRecord>
     if number >= 65535 {
         return None;
     }
-    match store.read(number as u16) {
-        Ok(contents) => Some(contents),
-        Err(_) => None,
-    }
+    store.read(number as u16).ok()
 }
 
 // A branch whose pattern is a wildcard: the whole value is dropped.
@@ -43,20 +40,17 @@ fn take_any<S: CellStore>(
     at: u16,
     branch: u16,
     value: Value,
-) -> Turn
+) -> Result<(), FaultKind>
     ensures steady { Steady machine.old machine.new }
-    ensures silent { printed_bytes result ≡ 0 }
     ensures law { (P : Program) (Z : Sizes) (m₀ : Cells) (p : ℕ) (bs : Branches) (K : List Waits) (env : Environment) (a : Account) (c : ℕ) (vs : Trees)
         → Hands P Z m₀ (case_test p bs) K env a (built c vs) (Frame.Tested at) value machine.old (S.CellStore.cells store.old)
         → ChosenAny P machine.old.script.now.code (names env) bs c branch
         → Moved P Z m₀ (st (case_test p bs ∷ K) env (has_finished (built c vs)) a) (select_branch P Z p bs c vs K env a) result machine.new (S.CellStore.cells store.new) }
 {
-    let Ok(count) = drop_value(store, value) else {
-        return Turn::Failed(FaultKind::Stuck, None);
-    };
+    let count = drop_value(store, value)?;
     machine.given = machine.given.saturating_add(count as u64);
     machine.frames.replace_top(Frame::Leaving(at, 0));
-    go(machine, after(branch))
+    machine.go(after(branch))
 }
 
 // A branch for the constructor: the tested cell is given back, and its fields are bound or dropped.
@@ -68,9 +62,8 @@ fn take_fields<S: CellStore>(
     mask: u8,
     cell: u16,
     contents: CellRecord,
-) -> Turn
+) -> Result<(), FaultKind>
     ensures steady { Steady machine.old machine.new }
-    ensures silent { printed_bytes result ≡ 0 }
     ensures law { (P : Program) (Z : Sizes) (m₀ : Cells) (p : ℕ) (bs : Branches) (K : List Waits) (env : Environment) (a : Account) (c : ℕ) (vs : Trees)
         → Hands P Z m₀ (case_test p bs) K env a (built c vs) (Frame.Tested at) (Value.Cell cell) machine.old (S.CellStore.cells store.old)
         → at_cell (S.CellStore.cells store.old) cell ≡ Some contents
@@ -80,17 +73,13 @@ fn take_fields<S: CellStore>(
     let names = names_in(mask);
     let room = machine.slots.room();
     if room - machine.slots.len() < names as usize {
-        return Turn::Failed(FaultKind::StackFull, None);
+        return Err(FaultKind::StackFull);
     }
-    let Ok(_) = store.give_back(cell) else {
-        return Turn::Failed(FaultKind::Stuck, None);
-    };
-    let Some(count) = bind_fields(&mut machine.slots, store, contents, mask) else {
-        return Turn::Failed(FaultKind::Stuck, None);
-    };
+    store.give_back(cell)?;
+    let count = bind_fields(&mut machine.slots, store, contents, mask).ok_or(FaultKind::Stuck)?;
     machine.given = machine.given.saturating_add(1).saturating_add(count);
     machine.frames.replace_top(Frame::Leaving(at, names));
-    go(machine, after(branch))
+    machine.go(after(branch))
 }
 
 // The tested value of a case: the first branch that fits is taken.
@@ -99,25 +88,22 @@ pub fn hand_tested<S: CellStore>(
     store: &mut S,
     at: u16,
     value: Value,
-) -> Turn
+) -> Result<(), FaultKind>
     ensures steady { Steady machine.old machine.new }
-    ensures silent { printed_bytes result ≡ 0 }
     ensures law { (P : Program) (Z : Sizes) (m₀ : Cells) (f : Waits) (K : List Waits) (env : Environment) (a : Account) (t : Tree)
         → Hands P Z m₀ f K env a t (Frame.Tested at) value machine.old (S.CellStore.cells store.old)
         → Moved P Z m₀ (st (f ∷ K) env (has_finished t) a) (hand P Z f K env a t) result machine.new (S.CellStore.cells store.new) }
 {
     let Value::Cell(number) = value else {
-        return Turn::Failed(FaultKind::Stuck, None);
+        return Err(FaultKind::Stuck);
     };
-    let Some(contents) = record_of(store, number) else {
-        return Turn::Failed(FaultKind::Stuck, None);
-    };
+    let contents = record_of(store, number).ok_or(FaultKind::Stuck)?;
     let first = code_at(machine.script, at as usize + 1).past;
     let past = code_at(machine.script, at as usize).past;
     match choose(machine.script, first, past, contents.constructor) {
-        Choice::None => Turn::Failed(FaultKind::NoBranch, None),
-        Choice::Any(branch) => take_any(machine, store, at, branch, value),
-        Choice::Fields(branch, mask) => take_fields(
+        None => Err(FaultKind::NoBranch),
+        Some(Choice::Any(branch)) => take_any(machine, store, at, branch, value),
+        Some(Choice::Fields(branch, mask)) => take_fields(
             machine,
             store,
             at,

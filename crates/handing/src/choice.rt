@@ -1,9 +1,7 @@
 // Which branch of a case fits.
 
-#[derive(Clone, Copy)]
+#[derive(Clone, Copy, PartialEq, Eq)]
 pub enum Choice {
-    // none
-    None,
     // the one at this node, whose pattern is a wildcard
     Any(u16),
     // the one at this node, and the fields that it binds: the lowest bit is the first field's

@@ -11,8 +11,8 @@ use super::choice::Choice;
 use machine::code_at;
 use program::{Compiled, Op};
 
-// The branches stand from the first node up to the node `past`.
-pub fn choose(script: &Compiled, first: u16, past: u16, constructor: u16) -> Choice
+// The branches stand from the first node up to the node `past`; none where none fits.
+pub fn choose(script: &Compiled, first: u16, past: u16, constructor: u16) -> Option<Choice>
     ensures { (P : Program) (G : Scope) (bs : Branches) → Forward P script.now.code → StandsBranches P script.now.code G bs first past
         → Chosen P script.now.code G bs constructor result }
 {
@@ -20,18 +20,18 @@ pub fn choose(script: &Compiled, first: u16, past: u16, constructor: u16) -> Cho
     while node < past {
         let code = code_at(script, node as usize);
         match code.op {
-            Op::Any => return Choice::Any(node),
+            Op::Any => return Some(Choice::Any(node)),
             Op::Branch(other, mask) => {
                 if other == constructor {
-                    return Choice::Fields(node, mask);
+                    return Some(Choice::Fields(node, mask));
                 }
             }
-            _ => return Choice::None,
+            _ => return None,
         }
         if code.past <= node {
-            return Choice::None;
+            return None;
         }
         node = code.past;
     }
-    Choice::None
+    None
 }

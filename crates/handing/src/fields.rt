@@ -37,20 +37,15 @@ fn bind_field<S: CellStore>(
 ) -> Option<u32>
     ensures room { room_of slots.new ≡ room_of slots.old }
     ensures bound { named ≡ true → length (tops slots.old) < room_of slots.old
-        → (result ≡ Some 0) × (tops slots.new ≡ Slot.Full field ∷ tops slots.old) × (S.CellStore.cells store.new ≡ S.CellStore.cells store.old) }
+        → (result ≡ Some 0) × (tops slots.new ≡ Some field ∷ tops slots.old) × (S.CellStore.cells store.new ≡ S.CellStore.cells store.old) }
     ensures skipped { named ≡ false → (m₀ : Cells) (vs : List Held) (t : Tree) (ts : Trees) → Out (S.CellStore.cells store.old) (field ∷ vs) (more t ts) m₀
         → (result ≡ Some (size t)) × (tops slots.new ≡ tops slots.old) × Out (S.CellStore.cells store.new) vs ts m₀ }
 {
     if named {
-        return match slots.push(Slot::Full(field)) {
-            Ok(_) => Some(0),
-            Err(_) => None,
-        };
+        slots.push(Some(field)).ok()?;
+        return Some(0);
     }
-    match drop_value(store, field) {
-        Ok(count) => Some(count),
-        Err(_) => None,
-    }
+    drop_value(store, field).ok()
 }
 
 // All fields in their order, by the names of a pattern: each is bound, or dropped under `_`.

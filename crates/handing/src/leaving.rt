@@ -7,7 +7,7 @@ ghost use Rattle.cell_data.specs.Taking.{Out};
 ghost use Rattle.cell_data.specs.Trees.{Tree, Trees, more, size};
 ghost use Rattle.handing.specs.Leaving.{Leaves};
 ghost use Rattle.machine.specs.Holding.{value_in, values_in, trees_in};
-ghost use Rattle.machine.specs.Mirrors.{Hands, Moved, Steady, printed_bytes};
+ghost use Rattle.machine.specs.Mirrors.{Hands, Moved, Steady};
 ghost use Rattle.program.specs.Programs.{Program};
 ghost use Rattle.rules.specs.States.{Environment, Account, st};
 ghost use Rattle.rules.specs.States.{Frame as Waits, finished as has_finished};
@@ -17,7 +17,7 @@ ghost use Rattle.stack.specs.Items.{tops, room_of};
 use cell_data::drops::drop_value;
 use cells::store::CellStore;
 use cells::values::Value;
-use machine::{Control, Frame, Machine, Slot, Turn, finish};
+use machine::{Control, Frame, Machine, Slot};
 use rules::FaultKind;
 use stack::Stack;
 
@@ -27,11 +27,8 @@ fn drop_slot<S: CellStore>(store: &mut S, slot: Slot) -> Option<u32>
         → (result ≡ Some (size t)) × Out (S.CellStore.cells store.new) vs ts m₀ }
 {
     match slot {
-        Slot::Full(value) => match drop_value(store, value) {
-            Ok(number) => Some(number),
-            Err(_) => None,
-        },
-        Slot::Empty => Some(0),
+        Some(value) => drop_value(store, value).ok(),
+        None => Some(0),
     }
 }
 
@@ -51,48 +48,26 @@ pub fn leave<S: CellStore>(slots: &mut Stack<'_, Slot>, store: &mut S, count: u1
     Some(total)
 }
 
-// The value of a let or a branch: its names leave.
+// The value of a let, a branch or a function's body: its names leave, and what waited has that value. A val name has none.
 pub fn hand_leaving<S: CellStore>(
     machine: &mut Machine<'_, '_, '_, '_, '_>,
     store: &mut S,
     at: u16,
     count: u16,
     value: Value,
-) -> Turn
+) -> Result<(), FaultKind>
     ensures steady { Steady machine.old machine.new }
-    ensures silent { printed_bytes result ≡ 0 }
     ensures law { (P : Program) (Z : Sizes) (m₀ : Cells) (f : Waits) (K : List Waits) (env : Environment) (a : Account) (t : Tree)
         → Hands P Z m₀ f K env a t (Frame.Leaving at count) value machine.old (S.CellStore.cells store.old)
         → Moved P Z m₀ (st (f ∷ K) env (has_finished t) a) (hand P Z f K env a t) result machine.new (S.CellStore.cells store.new) }
-{
-    let Some(number) = leave(&mut machine.slots, store, count) else {
-        return Turn::Failed(FaultKind::Stuck, None);
-    };
-    machine.given = machine.given.saturating_add(number);
-    machine.frames.cut(1);
-    finish(machine, value)
-}
-
-// The value of a function's body: its names leave, and the call has that value. A val name has none.
-pub fn hand_body<S: CellStore>(
-    machine: &mut Machine<'_, '_, '_, '_, '_>,
-    store: &mut S,
-    at: u16,
-    count: u16,
-    value: Value,
-) -> Turn
-    ensures steady { Steady machine.old machine.new }
-    ensures silent { printed_bytes result ≡ 0 }
-    ensures law { (P : Program) (Z : Sizes) (m₀ : Cells) (f : Waits) (K : List Waits) (env : Environment) (a : Account) (t : Tree)
+    ensures body { (P : Program) (Z : Sizes) (m₀ : Cells) (f : Waits) (K : List Waits) (env : Environment) (a : Account) (t : Tree)
         → Hands P Z m₀ f K env a t (Frame.Body at count) value machine.old (S.CellStore.cells store.old)
         → Moved P Z m₀ (st (f ∷ K) env (has_finished t) a) (hand P Z f K env a t) result machine.new (S.CellStore.cells store.new) }
 {
-    let Some(number) = leave(&mut machine.slots, store, count) else {
-        return Turn::Failed(FaultKind::Stuck, None);
-    };
+    let number = leave(&mut machine.slots, store, count).ok_or(FaultKind::Stuck)?;
     machine.given = machine.given.saturating_add(number);
     machine.frames.cut(1);
-    finish(machine, value)
+    machine.finish(value)
 }
 
 // Main's value is dropped, and the run has ended.
@@ -100,18 +75,15 @@ pub fn hand_main<S: CellStore>(
     machine: &mut Machine<'_, '_, '_, '_, '_>,
     store: &mut S,
     value: Value,
-) -> Turn
+) -> Result<(), FaultKind>
     ensures steady { Steady machine.old machine.new }
-    ensures silent { printed_bytes result ≡ 0 }
     ensures law { (P : Program) (Z : Sizes) (m₀ : Cells) (f : Waits) (K : List Waits) (env : Environment) (a : Account) (t : Tree)
         → Hands P Z m₀ f K env a t Frame.Main value machine.old (S.CellStore.cells store.old)
         → Moved P Z m₀ (st (f ∷ K) env (has_finished t) a) (hand P Z f K env a t) result machine.new (S.CellStore.cells store.new) }
 {
-    let Ok(count) = drop_value(store, value) else {
-        return Turn::Failed(FaultKind::Stuck, None);
-    };
+    let count = drop_value(store, value)?;
     machine.given = machine.given.saturating_add(count as u64);
     machine.frames.cut(1);
     machine.control = Control::Over;
-    Turn::Went(0)
+    Ok(())
 }

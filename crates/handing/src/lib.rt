@@ -11,5 +11,5 @@ mod parts;
 
 pub use arguments::{hand_argument, hand_field, hand_head};
 pub use cases::hand_tested;
-pub use leaving::{hand_body, hand_leaving, hand_main};
+pub use leaving::{hand_leaving, hand_main};
 pub use parts::{hand_arm, hand_binding, hand_part, hand_test};

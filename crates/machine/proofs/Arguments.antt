@@ -11,11 +11,11 @@ use Rattle.cell_data.proofs.Moves.{pull}
 use Rattle.cell_data.proofs.Outs.{join, tally, out_tally}
 use Rattle.cell_data.specs.Taking.{Out}
 use Rattle.cell_data.specs.Trees.{Tree, Trees, none, more}
-use Rattle.grammar.specs.Trees.{Ident, PatternPart, bound}
+use Rattle.grammar.specs.Trees.{Ident, bound}
 use Rattle.machine.proofs.Cells.{row_append}
-use Rattle.machine.specs.Holding.{tree_in, holds, trees_in, names}
+use Rattle.machine.specs.Holding.{holds, trees_in, names}
 use Rattle.program.specs.Scopes.{Scope, bind_scope}
-use Rattle.rules.specs.States.{Entry, full, empty, argument, Environment}
+use Rattle.rules.specs.States.{full, empty, argument, Environment}
 use Rattle.rules.specs.Steps.{Taken, took, short, more_by_one, take_arguments, Bound, binds, unfit, bind_parts}
 
 -- arguments on top of entries, the first of them below the others

@@ -1,9 +1,9 @@
 -- A constructor is applied: its arguments become the fields of a new cell.
-use Rattle.std.proofs.Common.{◌≡◌, ℕ, ◌+◌, ◌-◌, ◌<◌, ◌≤◌, List, [], ◌∷◌, ◌++◌, length, take, replicate, sym, refl, ap, ◌∙◌, subst, arith}
+use Rattle.std.proofs.Common.{◌≡◌, ℕ, ◌+◌, ◌-◌, ◌<◌, ◌≤◌, List, ◌∷◌, ◌++◌, length, take, replicate, sym, ap, ◌∙◌, subst, arith}
 use Rattle.std.proofs.Math.Seq.{take-append_seam}
 use Rattle.cells.proofs.Calls.{taken_count, full_counted, taken_capacity}
 use Rattle.cells.proofs.CellLaws.{count_le}
-use Rattle.cells.specs.Meaning.{Cells, count_live, TakenAt, Full}
+use Rattle.cells.specs.Meaning.{Cells, TakenAt, Full}
 use Rattle.cells.specs.Records.{row, Made}
 use Rattle.cells.specs.declared.records.CellRecord.{CellRecord}
 use Rattle.cells.specs.declared.refusals.StoreRefusal.{StoreRefusal}

@@ -1,17 +1,15 @@
 -- The cells that are held, and those that are free.
-use Rattle.std.proofs.Common.{◌≡◌, ℕ, ◌+◌, ◌<◌, ◌≤◌, List, [], ◌∷◌, ◌++◌, length, min, sym, refl, ap, ◌∙◌, arith}
+use Rattle.std.proofs.Common.{◌≡◌, ℕ, ◌+◌, List, [], ◌∷◌, ◌++◌, length, min, refl, ap, arith}
 use Rattle.cells.specs.Meaning.{Cells, count_live}
 use Rattle.cells.specs.declared.values.Value.{Value}
 use Rattle.cell_data.proofs.Outs.{join, sizes_join, out_count, out_long}
-use Rattle.cell_data.specs.Taking.{Out}
-use Rattle.cell_data.specs.Trees.{Trees, none, more, size, sizes}
-use Rattle.machine.specs.Holding.{values_in, tree_in, trees_in, kept, capped}
+use Rattle.cell_data.specs.Trees.{Trees, more, size, sizes}
+use Rattle.machine.specs.Holding.{tree_in, trees_in, kept, capped}
 use Rattle.machine.specs.Mirrors.{Rests}
 use Rattle.machine.specs.declared.machine.Machine.{Machine}
 use Rattle.program.specs.Programs.{Program}
 use Rattle.rules.specs.States.{Entry, full, empty, argument, Environment, Frame, saved, Account, entry_size, environment_size, saved_size}
 use Rattle.rules.specs.Steps.{Sizes}
-use Rattle.stack.specs.Items.{tops}
 
 entry_size_law : (s : Entry) → size (tree_in s) ≡ entry_size s
 entry_size_law (full x t) = refl

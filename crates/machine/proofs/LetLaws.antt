@@ -1,19 +1,17 @@
 -- How a let goes on.
-use Rattle.std.proofs.Common.{◌≡◌, ℕ, ◌+◌, ◌<◌, List, [], ◌∷◌, drop, Some, sym, refl, ap, ◌∙◌, subst, arith}
-use Rattle.grammar.specs.Trees.{Expr, Bindings, no_bindings, and_binding}
+use Rattle.std.proofs.Common.{◌≡◌, ℕ, ◌+◌, List, ◌∷◌, drop, Some, sym, refl, subst, arith}
+use Rattle.grammar.specs.Trees.{Expr, Bindings}
 use Rattle.machine.proofs.Nodes.{stands_no_binding}
 use Rattle.machine.specs.Going.{LetGoes}
 use Rattle.machine.specs.Holding.{names}
 use Rattle.machine.specs.Waiting.{PlacedAt, Waits, waits_binding, waits_leaving}
 use Rattle.machine.specs.declared.frame.Frame.TheVariants as waiting
-use Rattle.machine.specs.declared.onward.Onward.{Onward}
-use Rattle.program.specs.Compiling.{binding_count, let_scope}
+use Rattle.program.specs.Compiling.{let_scope}
 use Rattle.program.specs.Programs.{Program}
-use Rattle.program.specs.Scopes.{Scope}
 use Rattle.program.specs.Standing.{at, past, StandsAt, StandsBindings, bindings_none, bindings_more}
 use Rattle.program.specs.declared.code.Code.{Code}
 use Rattle.program.specs.declared.code.Op.TheVariants as op
-use Rattle.rules.specs.States.{Environment, Frame, let_binding, scope_end}
+use Rattle.rules.specs.States.{Environment, let_binding, scope_end}
 use Rattle.rules.specs.Steps.{bind_next}
 
 module _ {P : Program} {cs : List Code} {env : Environment} (p i n : ℕ) (here : PlacedAt P cs i p) where

@@ -1,5 +1,5 @@
 -- What a name finds among the entries.
-use Rattle.std.proofs.Common.{◌≡◌, ℕ, zero, suc, ◌+◌, Bool, true, false, cond, List, [], ◌∷◌, ◌++◌, map, set, length, Some, None, Option, sym, refl, ap, ◌∙◌, subst, arith}
+use Rattle.std.proofs.Common.{◌≡◌, ℕ, zero, suc, ◌+◌, Bool, true, false, cond, List, [], ◌∷◌, ◌++◌, map, set, Some, None, Option, sym, refl, ap, ◌∙◌, subst, arith}
 use Rattle.std.specs.List.{slice_get}
 use Rattle.std.specs.Str.{bytes_eq}
 use Rattle.std.proofs.Common.{option_map}
@@ -7,8 +7,7 @@ use Rattle.std.proofs.lemmas.Option.{slice_get-map}
 use Rattle.cells.specs.declared.values.Value.{Value}
 use Rattle.cell_data.specs.Trees.{Tree, int, bool, symbol, unit, function, built}
 use Rattle.machine.specs.Holding.{names, is_full, holds, full_value}
-use Rattle.machine.specs.declared.slot.Slot.{Slot}
-use Rattle.machine.specs.declared.slot.Slot.TheVariants.{Full, Empty}
+use Rattle.machine.specs.Holding.{Slot}
 use Rattle.program.specs.Programs.{Name}
 use Rattle.program.specs.Scopes.{distance, further}
 use Rattle.rules.specs.States.{Entry, full, empty, argument, Environment}
@@ -99,19 +98,19 @@ same_full ss es d f = sym (slice_get-map is_full ss d) ∙ ap (λ q. slice_get q
 pub record Found (ss : List Slot) (env es : Environment) (d : ℕ) (v : Value) (l : Looked) : Type 0 where
   pub name : Name
   pub tree : Tree
-  pub slot : slice_get ss d ≡ Some (Full v)
+  pub slot : slice_get ss d ≡ Some (Some v)
   pub entry : slice_get env d ≡ Some (full name tree)
   pub is : l ≡ got tree (set env d (left name tree))
 
-full_value_law : (o : Option Slot) (v : Value) → full_value o ≡ Some v → o ≡ Some (Full v)
+full_value_law : (o : Option Slot) (v : Value) → full_value o ≡ Some v → o ≡ Some (Some v)
 full_value_law None v e = absurd (cc)
-full_value_law (Some (Full u)) v e = cc
-full_value_law (Some Empty) v e = absurd (cc)
+full_value_law (Some (Some u)) v e = cc
+full_value_law (Some None) v e = absurd (cc)
 
 without_value : (o : Option Slot) → full_value o ≡ None → option_map is_full o ≡ Some true → ⊥
 without_value None e h = cc
-without_value (Some (Full v)) e h = cc
-without_value (Some Empty) e h = cc
+without_value (Some (Some v)) e h = cc
+without_value (Some None) e h = cc
 
 found_seen : (ss : List Slot) (env es : Environment) (d : ℕ) {v : Value} {l : Looked} → map is_full ss ≡ map holds (env ++ es) → Seen env d l → full_value (slice_get ss d) ≡ Some v → Found ss env es d v l
 found_seen ss env es d {v} f (seen {x} {t} g e) h = record { name = x; tree = t; slot = full_value_law _ v h; entry = g; is = ap (got t) e }

@@ -1,5 +1,5 @@
 -- Nodes that were read, and what stands at them.
-use Rattle.std.proofs.Common.{◌≡◌, ℕ, suc, ◌+◌, ◌<◌, List, sym, ap, ◌∙◌, subst}
+use Rattle.std.proofs.Common.{◌≡◌, ℕ, List, sym, ap, ◌∙◌, subst}
 use Rattle.grammar.specs.Trees.{Expr}
 use Rattle.program.specs.Programs.{Program}
 use Rattle.program.specs.Scopes.{Scope}

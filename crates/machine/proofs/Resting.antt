@@ -1,5 +1,8 @@
 -- How a change of the machine carries what it mirrors.
-use Rattle.std.proofs.Common.{◌≡◌, ℕ, suc, ◌+◌, ◌<◌, ◌≤◌, Bool, true, false, cond, eqb, leb, ltb, List, [], ◌∷◌, ◌++◌, map, length, drop, None, sym, refl, ap, ◌∙◌, subst, arith}
+use Rattle.std.proofs.Common.{◌≡◌, ℕ, suc, ◌+◌, List, [], ◌∷◌, ◌++◌, map, length, drop, None, Result, Err, sym, refl, ap, ◌∙◌, subst, arith}
+use Rattle.std.specs.Bool.{⊤}
+use Rattle.std.specs.Result.{IsErrAnd}
+use Rattle.std.proofs.lemmas.Result.{err_from_is_err_and}
 use Rattle.std.proofs.lemmas.List.{length-map, length-append}
 use Rattle.cells.specs.Meaning.{Cells}
 use Rattle.cells.specs.declared.values.Value.{Value}
@@ -9,20 +12,21 @@ use Rattle.cell_data.specs.Taking.{Out, out_plain}
 use Rattle.cell_data.specs.Trees.{Tree, Trees, none, more}
 use Rattle.grammar.specs.Trees.{Expr}
 use Rattle.machine.specs.Holding.{values_in, is_full, trees_in, holds, names, kept, capped}
-use Rattle.machine.specs.Mirrors.{Rests, Mirrors, mirrors, Moved, moved_on, moved_not, moved_any, Printed, printed_on, printed_not, printed_any, Under, Onto}
+use Rattle.machine.specs.Mirrors.{Rests, Mirrors, mirrors, Moved, moved_on, moved_not, moved_any, Printed, printed_on, printed_not, printed_any, Under, as_printing}
 use Rattle.machine.specs.Waiting.{Waits, waits_none, waits_test, waits_arm, waits_part, waits_binding, waits_leaving, waits_tested, waits_head, waits_argument, waits_field, waits_body, waits_main, Next, next_enter, value_in_hand}
 use Rattle.machine.specs.declared.control.Control.{Control as Ahead}
 use Rattle.machine.specs.declared.control.Control.TheVariants as ahead
 use Rattle.machine.specs.declared.frame.Frame.{Frame as Waiting}
 use Rattle.machine.specs.declared.machine.Machine.{Machine}
-use Rattle.machine.specs.declared.slot.Slot.{Slot}
-use Rattle.machine.specs.declared.turn.Turn.{Turn}
+use Rattle.machine.specs.Holding.{Slot}
+use Rattle.machine.specs.declared.halt.Halt.{Halt}
+use Rattle.rules.specs.declared.fault.FaultKind.{FaultKind}
 use Rattle.program.specs.Programs.{Program}
 use Rattle.program.specs.Scopes.{Scope}
 use Rattle.program.specs.Standing.{StandsAt}
 use Rattle.program.specs.declared.code.Code.{Code}
 use Rattle.rules.specs.States.{Environment, Frame, Account, State, st, enter, saved, saved_count}
-use Rattle.rules.specs.Steps.{Outcome, Sizes}
+use Rattle.rules.specs.Steps.{Outcome, fails, Sizes}
 use Rattle.stack.specs.Items.{tops, room_of}
 use Rattle.stack.specs.declared.Stack.{Stack}
 
@@ -134,7 +138,7 @@ pub unmoved : {P : Program} {Z : Sizes} {m₀ m : Cells} {r : Machine} {s : Stat
 unmoved (mirrors R N) fs ss froom ftops sroom stops = mirrors (restacked R fs ss froom ftops sroom stops) N
 
 -- what the rules say may be written in another way
-pub by_rule : {P : Program} {Z : Sizes} {m₀ m : Cells} {s : State} {o o' : Outcome} {t : Turn} {r : Machine} → o ≡ o' → Moved P Z m₀ s o' t r m → Moved P Z m₀ s o t r m
+pub by_rule : {P : Program} {Z : Sizes} {m₀ m : Cells} {s : State} {o o' : Outcome} {t : Result ⊤ FaultKind} {r : Machine} → o ≡ o' → Moved P Z m₀ s o' t r m → Moved P Z m₀ s o t r m
 by_rule {P} {Z} {m₀} {m} {s} {t = t} {r = r} e h = subst (λ o. Moved P Z m₀ s o t r m) (sym e) h
 
 -- where an expression is entered nothing is in hand
@@ -160,32 +164,45 @@ entered_again {P} {Z} {m₀} {m' = m'} {K = K} {env = env} {a = a} {r = r} (mirr
 pub same_store : {P : Program} {Z : Sizes} {m₀ m m' : Cells} {s : State} {r : Machine} → m' ≡ m → Mirrors P Z m₀ s r m → Mirrors P Z m₀ s r m'
 same_store {P} {Z} {m₀} {s = s} {r = r} e M = subst (λ m. Mirrors P Z m₀ s r m) (sym e) M
 
+-- a step that faults, from what it answers
+pub faulted : {P : Program} {Z : Sizes} {m₀ m : Cells} {s : State} {kind : FaultKind} {r : Machine} (t : Result ⊤ FaultKind) → IsErrAnd t (λ k. k ≡ kind) → Mirrors P Z m₀ s r m → Moved P Z m₀ s (fails kind None) t r m
+faulted {P} {Z} {m₀} {m} {s} {kind} {r} t h M =
+    let e = err_from_is_err_and t h in
+    subst (λ t. Moved P Z m₀ s (fails kind None) t r m) (sym (e.1 ∙ ap Err e.2)) (moved_not M)
+
+pub faulted_as : {P : Program} {Z : Sizes} {m₀ m : Cells} {s : State} {kind found : FaultKind} {r : Machine} (t : Result ⊤ FaultKind) → IsErrAnd t (λ k. k ≡ found) → found ≡ kind → Mirrors P Z m₀ s r m
+    → Moved P Z m₀ s (fails kind None) t r m
+faulted_as {P} {Z} {m₀} {m} {s} {kind} {found} {r} t h e M = subst (λ k. Moved P Z m₀ s (fails k None) t r m) e (faulted t h M)
+
+unprinted_as : {P : Program} {Z : Sizes} {m₀ m : Cells} {s : State} {o : Outcome} {t : Result ⊤ FaultKind} {r : Machine} {old new : List ℕ} → new ≡ old → Moved P Z m₀ s o t r m → Printed P Z m₀ s old o (as_printing t) r m new
+unprinted_as e (moved_on M) = printed_on refl (omega arith) e M
+unprinted_as e (moved_not M) = printed_not e M
+unprinted_as e moved_any = printed_any
+
 -- a step that prints nothing
-pub silent : {P : Program} {Z : Sizes} {m₀ m : Cells} {s : State} {o : Outcome} {t : Turn} {r : Machine} {old new : List ℕ} → new ≡ old → Moved P Z m₀ s o t r m → Printed P Z m₀ s old o t r m new
-silent e (moved_on M) = printed_on refl (omega arith) e M
-silent e (moved_not M) = printed_not e M
-silent e moved_any = printed_any
+pub silent : {P : Program} {Z : Sizes} {m₀ m : Cells} {s : State} {o : Outcome} {t : Result ⊤ FaultKind} {t' : Result ℕ Halt} {r : Machine} {old new : List ℕ} → t' ≡ as_printing t → new ≡ old
+    → Moved P Z m₀ s o t r m → Printed P Z m₀ s old o t' r m new
+silent {P} {Z} {m₀} {m} {s} {o} {r = r} {old = old} {new = new} is e h = subst (λ t. Printed P Z m₀ s old o t r m new) (sym is) (unprinted_as e h)
 
 -- what the rules say may be written in another way
-pub by_printing : {P : Program} {Z : Sizes} {m₀ m : Cells} {s : State} {old new : List ℕ} {o o' : Outcome} {t : Turn} {r : Machine} → o ≡ o' → Printed P Z m₀ s old o' t r m new → Printed P Z m₀ s old o t r m new
+pub by_printing : {P : Program} {Z : Sizes} {m₀ m : Cells} {s : State} {old new : List ℕ} {o o' : Outcome} {t : Result ℕ Halt} {r : Machine} → o ≡ o' → Printed P Z m₀ s old o' t r m new → Printed P Z m₀ s old o t r m new
 by_printing {P} {Z} {m₀} {m} {s} {old} {new} {t = t} {r = r} e h = subst (λ o. Printed P Z m₀ s old o t r m new) (sym e) h
 
--- what lies above is taken off, and a plain value is in hand
-pub uncovered : {P : Program} {Z : Sizes} {m₀ m : Cells} {n : ℕ} {K : List Frame} {env : Environment} {a a' : Account} {r : Machine} {v : Value} {t : Tree} → Under P Z m₀ n K env a r m
-    → (fs : Stack Waiting) (ss : Stack Slot) (place : ℕ) → room_of fs ≡ room_of r.frames → tops fs ≡ drop 1 (tops r.frames) → room_of ss ≡ room_of r.slots → tops ss ≡ drop n (tops r.slots)
-    → drop place r.input.now ≡ a'.input → a'.taken ≡ a.taken → a'.given ≡ a.given
-    → Plain v t → Rests P Z m₀ K env a' (v ∷ []) (more t none) (changed r fs ss r.control place r.taken r.given) m
-uncovered {P} {Z} {m₀} {m} {n} {K} {env} {r = r} U fs ss place froom ftops sroom stops i t g p = record {
+-- what lies above is taken off
+pub uncovered : {P : Program} {Z : Sizes} {m₀ m : Cells} {n : ℕ} {K : List Frame} {env : Environment} {a : Account} {r : Machine} → Under P Z m₀ n K env a r m
+    → (fs : Stack Waiting) (ss : Stack Slot) → room_of fs ≡ room_of r.frames → tops fs ≡ drop 1 (tops r.frames) → room_of ss ≡ room_of r.slots → tops ss ≡ drop n (tops r.slots)
+    → Rests P Z m₀ K env a [] none (changed r fs ss r.control r.place r.taken r.given) m
+uncovered {P} {Z} {m₀} {m} {n} {K} {env} {r = r} U fs ss froom ftops sroom stops = record {
   ready = U.ready;
   frames_room = froom ∙ U.frames_room;
   slots_room = sroom ∙ U.slots_room;
   frames = subst (Waits P r.script.now.code (names env) K) (sym ftops) U.frames;
   full = ap (map is_full) stops ∙ U.full;
-  data_held = out_plain p (subst (λ q. Out m (values_in q) (trees_in (env ++ kept K)) m₀) (sym stops) U.data_held);
+  data_held = subst (λ q. Out m (values_in q) (trees_in (env ++ kept K)) m₀) (sym stops) U.data_held;
   cells = U.cells;
-  input = i;
-  taken = U.taken ∙ ap capped (sym t);
-  given = U.given ∙ ap capped (sym g);
+  input = U.input;
+  taken = U.taken;
+  given = U.given;
 }
 
 -- the value in hand may be written in another way

@@ -1,19 +1,17 @@
 -- Rows of slots and entries, and the data that they hold.
-use Rattle.std.proofs.Common.{◌≡◌, ℕ, zero, suc, ◌+◌, Bool, true, false, List, [], ◌∷◌, ◌++◌, map, set, length, Some, None, sym, refl, ap, ◌∙◌, subst, arith}
+use Rattle.std.proofs.Common.{◌≡◌, ℕ, zero, suc, true, false, List, [], ◌∷◌, map, set, Some, sym, refl, ap, ◌∙◌, subst}
 use Rattle.std.specs.List.{slice_get}
 use Rattle.cells.specs.Meaning.{Cells}
 use Rattle.cells.specs.declared.values.Value.{Value}
-use Rattle.cells.specs.declared.values.Value.TheVariants.{Cell, Unit as Nothing}
 use Rattle.cell_data.proofs.Moves.{pull}
 use Rattle.cell_data.proofs.Outs.{Two, parts_at, joined}
 use Rattle.cell_data.specs.Standing.{Plain, plain_int, plain_bool, plain_symbol, plain_unit, plain_function}
-use Rattle.cell_data.specs.Taking.{Out, out_none, out_plain, out_cell}
+use Rattle.cell_data.specs.Taking.{Out, out_plain, out_cell}
 use Rattle.cell_data.specs.Trees.{Tree, Trees, none, more}
 use Rattle.machine.specs.Holding.{value_in, is_full, values_in, tree_in, holds, trees_in, slot_left}
-use Rattle.machine.specs.declared.slot.Slot.{Slot}
-use Rattle.machine.specs.declared.slot.Slot.TheVariants.{Full, Empty}
+use Rattle.machine.specs.Holding.{Slot}
 use Rattle.program.specs.Programs.{Name}
-use Rattle.rules.specs.States.{Entry, full, empty, argument, Environment}
+use Rattle.rules.specs.States.{full, Environment}
 use Rattle.rules.specs.Steps.{left}
 
 -- the first value of a row apart from the others
@@ -29,14 +27,14 @@ pub record Used (ss : List Slot) (es : Environment) (d : ℕ) (v : Value) (x : N
   pub full : map is_full (set ss d (slot_left v)) ≡ map holds (set es d (left x t))
   pub data_held : Out m (v ∷ values_in (set ss d (slot_left v))) (more t (trees_in (set es d (left x t)))) m₀
 
-used_plain : {v : Value} {t : Tree} (x : Name) → Plain v t → (slot_left v ≡ Full v) × (left x t ≡ full x t)
+used_plain : {v : Value} {t : Tree} (x : Name) → Plain v t → (slot_left v ≡ Some v) × (left x t ≡ full x t)
 used_plain x plain_int = (refl, refl)
 used_plain x plain_bool = (refl, refl)
 used_plain x plain_symbol = (refl, refl)
 used_plain x plain_unit = (refl, refl)
 used_plain x plain_function = (refl, refl)
 
-used_first : (ss : List Slot) (es : Environment) {v : Value} (x : Name) {t : Tree} {m m₀ : Cells} → map is_full ss ≡ map holds es → Out m (v ∷ values_in ss) (more t (trees_in es)) m₀ → Used (Full v ∷ ss) (full x t ∷ es) 0 v x t m m₀
+used_first : (ss : List Slot) (es : Environment) {v : Value} (x : Name) {t : Tree} {m m₀ : Cells} → map is_full ss ≡ map holds es → Out m (v ∷ values_in ss) (more t (trees_in es)) m₀ → Used (Some v ∷ ss) (full x t ∷ es) 0 v x t m m₀
 used_first ss es {v} x {t} {m} {m₀} f (out_plain p o) =
     let e = used_plain x p in
     let e₀ = e.0 in
@@ -47,14 +45,14 @@ used_first ss es {v} x {t} {m} {m₀} f (out_plain p o) =
     }
 used_first ss es x f (out_cell r e k o) = record { full = ap (λ q. false ∷ q) f; data_held = out_cell r e k (out_plain plain_unit o) }
 
-pub used : (d : ℕ) (ss : List Slot) (es : Environment) {v : Value} {x : Name} {t : Tree} {m m₀ : Cells} → slice_get ss d ≡ Some (Full v) → slice_get es d ≡ Some (full x t)
+pub used : (d : ℕ) (ss : List Slot) (es : Environment) {v : Value} {x : Name} {t : Tree} {m m₀ : Cells} → slice_get ss d ≡ Some (Some v) → slice_get es d ≡ Some (full x t)
     → map is_full ss ≡ map holds es → Out m (values_in ss) (trees_in es) m₀ → Used ss es d v x t m m₀
 used d [] es g h f o = absurd (cc)
 used d (s ∷ ss) [] g h f o = absurd (cc)
 used zero (s ∷ ss) (e ∷ es) {v} {x} {t} {m} {m₀} g h f o =
-    let slot : Full v ≡ s = cc in
+    let slot : Some v ≡ s = cc in
     let entry : full x t ≡ e = cc in
-    subst (λ s. Used (s ∷ ss) (e ∷ es) 0 v x t m m₀) slot (subst (λ e. Used (Full v ∷ ss) (e ∷ es) 0 v x t m m₀) entry
+    subst (λ s. Used (s ∷ ss) (e ∷ es) 0 v x t m m₀) slot (subst (λ e. Used (Some v ∷ ss) (e ∷ es) 0 v x t m m₀) entry
     (used_first ss es x (cc) (subst (λ e. Out m (v ∷ values_in ss) (more (tree_in e) (trees_in es)) m₀) (sym entry) (subst (λ s. Out m (value_in s ∷ values_in ss) (more (tree_in e) (trees_in es)) m₀) (sym slot) o))))
 used (suc d) (s ∷ ss) (e ∷ es) {v} {x} {t} g h f o =
     let a = alone o in
@@ -72,12 +70,12 @@ pub record Focus (vs : List Value) (ts : Trees) (v : Value) (t : Tree) (m m₀ :
   pub front : Out m (v ∷ others) (more t trees) m₀
   pub back : (m' : Cells) → Out m' (v ∷ others) (more t trees) m₀ → Out m' vs ts m₀
 
-pub focus : (d : ℕ) (ss : List Slot) (es : Environment) {v : Value} {x : Name} {t : Tree} {m m₀ : Cells} → slice_get ss d ≡ Some (Full v) → slice_get es d ≡ Some (full x t)
+pub focus : (d : ℕ) (ss : List Slot) (es : Environment) {v : Value} {x : Name} {t : Tree} {m m₀ : Cells} → slice_get ss d ≡ Some (Some v) → slice_get es d ≡ Some (full x t)
     → Out m (values_in ss) (trees_in es) m₀ → Focus (values_in ss) (trees_in es) v t m m₀
 focus d [] es g h o = absurd (cc)
 focus d (s ∷ ss) [] g h o = absurd (cc)
 focus zero (s ∷ ss) (e ∷ es) {v} {x} {t} {m} {m₀} g h o =
-    let slot : s ≡ Full v = cc in
+    let slot : s ≡ Some v = cc in
     let entry : e ≡ full x t = cc in
     let value : value_in s ≡ v = ap value_in slot in
     let tree : tree_in e ≡ t = ap tree_in entry in

@@ -3,34 +3,36 @@ use Rattle.std.specs.Prelude.{ℕ, Bool, true, false, List, [], ◌∷◌, ◌++
 use Rattle.cells.specs.declared.values.Value.{Value}
 use Rattle.cells.specs.declared.values.Value.TheVariants.{Int, Bool as Truth, Sym, Unit as Nothing, Function, Cell}
 use Rattle.cell_data.specs.Trees.{Tree, Trees, unit, none, more}
-use Rattle.machine.specs.declared.slot.Slot.{Slot}
-use Rattle.machine.specs.declared.slot.Slot.TheVariants.{Full, Empty}
 use Rattle.program.specs.Scopes.{Scope}
 use Rattle.rules.specs.States.{Entry, full, empty, argument, Environment, Frame, saved}
 
+-- an entry of the second stack: a value, or none where a name's data is consumed
+abbrev pub Slot : Type 0
+Slot = Option Value
+
 -- the value in a slot; unit in an empty one
 abbrev pub value_in : Slot → Value
-value_in (Full v) = v
-value_in Empty = Nothing
+value_in (Some v) = v
+value_in None = Nothing
 
 abbrev pub is_full : Slot → Bool
-is_full (Full v) = true
-is_full Empty = false
+is_full (Some v) = true
+is_full None = false
 
 -- what a slot holds after its value was read: data is consumed
 abbrev pub slot_left : Value → Slot
-slot_left (Int i) = Full (Int i)
-slot_left (Truth b) = Full (Truth b)
-slot_left (Sym n) = Full (Sym n)
-slot_left Nothing = Full Nothing
-slot_left (Function n) = Full (Function n)
-slot_left (Cell n) = Empty
+slot_left (Int i) = Some (Int i)
+slot_left (Truth b) = Some (Truth b)
+slot_left (Sym n) = Some (Sym n)
+slot_left Nothing = Some Nothing
+slot_left (Function n) = Some (Function n)
+slot_left (Cell n) = None
 
 -- the value of a full slot
 abbrev pub full_value : Option Slot → Option Value
 full_value None = None
-full_value (Some (Full v)) = Some v
-full_value (Some Empty) = None
+full_value (Some (Some v)) = Some v
+full_value (Some None) = None
 
 abbrev pub values_in : List Slot → List Value
 values_in ss = map value_in ss

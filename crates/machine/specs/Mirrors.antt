@@ -1,5 +1,5 @@
 -- A machine and a store mirror a state of the rules.
-use Rattle.std.specs.Prelude.{◌≡◌, ℕ, ◌+◌, ◌<◌, ◌≤◌, Bool, true, false, List, [], ◌∷◌, ◌++◌, map, length, drop, Some, None, Option}
+use Rattle.std.specs.Prelude.{◌≡◌, ℕ, ◌+◌, ◌<◌, ◌≤◌, List, [], ◌∷◌, ◌++◌, map, length, drop, None, Option, Result, Ok, Err, ⊤}
 use Rattle.basis.specs.declared.function.Basis.{Basis}
 use Rattle.cells.specs.Meaning.{Cells, count_live}
 use Rattle.cells.specs.declared.values.Value.{Value}
@@ -13,8 +13,8 @@ use Rattle.grammar.specs.Trees.{Expr}
 use Rattle.machine.specs.declared.control.Control.TheVariants.{Finished}
 use Rattle.machine.specs.declared.frame.Frame.{Frame as Waiting}
 use Rattle.machine.specs.declared.machine.Machine.{Machine}
-use Rattle.machine.specs.declared.turn.Turn.{Turn}
-use Rattle.machine.specs.declared.turn.Turn.TheVariants.{Went, Failed, Full}
+use Rattle.machine.specs.declared.halt.Halt.{Halt}
+use Rattle.machine.specs.declared.halt.Halt.TheVariants.{Failed, OutputFull}
 use Rattle.program.specs.Programs.{Program}
 use Rattle.program.specs.Standing.{StandsAt}
 use Rattle.rules.specs.declared.fault.FaultKind.{FaultKind}
@@ -42,23 +42,23 @@ module _ (P : Program) (Z : Sizes) (m₀ : Cells) where
     mirrors : {K : List Frame} {env : Environment} {c : Control} {a : Account} {r : Machine} {m : Cells}
         → Rests K env a (value_in_hand r.control) (handed c) r m → Next P r.script.now.code (names env) c r.control → Mirrors (st K env c a) r m
 
-  -- What a step that prints nothing does to a machine that mirrored s, by what the rules say of the step.
-  pub data Moved (s : State) : Outcome → Turn → Machine → Cells → Type 0 where
+  -- What a step that never prints does to a machine that mirrored s, by what the rules say of the step.
+  pub data Moved (s : State) : Outcome → Result ⊤ FaultKind → Machine → Cells → Type 0 where
     -- the step is taken
-    moved_on : {s' : State} {r : Machine} {m : Cells} → Mirrors s' r m → Moved s (goes [] s') (Went 0) r m
+    moved_on : {s' : State} {r : Machine} {m : Cells} → Mirrors s' r m → Moved s (goes [] s') (Ok tt) r m
     -- a step that faults changes nothing
-    moved_not : {kind : FaultKind} {f : Option Basis} {r : Machine} {m : Cells} → Mirrors s r m → Moved s (fails kind f) (Failed kind f) r m
+    moved_not : {kind : FaultKind} {r : Machine} {m : Cells} → Mirrors s r m → Moved s (fails kind None) (Err kind) r m
     -- for what the rules do not allow nothing is said
-    moved_any : {t : Turn} {r : Machine} {m : Cells} → Moved s stuck t r m
+    moved_any : {t : Result ⊤ FaultKind} {r : Machine} {m : Cells} → Moved s stuck t r m
 
   -- The same for a step that may print: the slice that is lent for the output holds these bytes before and after. What is printed goes to
   -- its front, whole or not at all, and the rest is as it was.
-  pub data Printed (s : State) (old : List ℕ) : Outcome → Turn → Machine → Cells → List ℕ → Type 0 where
+  pub data Printed (s : State) (old : List ℕ) : Outcome → Result ℕ Halt → Machine → Cells → List ℕ → Type 0 where
     printed_on : {bytes new : List ℕ} {n : ℕ} {s' : State} {r : Machine} {m : Cells} → n ≡ length bytes → length bytes ≤ length old → new ≡ bytes ++ drop (length bytes) old
-        → Mirrors s' r m → Printed s old (goes bytes s') (Went n) r m new
-    printed_full : {bytes new : List ℕ} {s' : State} {r : Machine} {m : Cells} → length old < length bytes → new ≡ old → Mirrors s r m → Printed s old (goes bytes s') Full r m new
-    printed_not : {new : List ℕ} {kind : FaultKind} {f : Option Basis} {r : Machine} {m : Cells} → new ≡ old → Mirrors s r m → Printed s old (fails kind f) (Failed kind f) r m new
-    printed_any : {new : List ℕ} {t : Turn} {r : Machine} {m : Cells} → Printed s old stuck t r m new
+        → Mirrors s' r m → Printed s old (goes bytes s') (Ok n) r m new
+    printed_full : {bytes new : List ℕ} {s' : State} {r : Machine} {m : Cells} → length old < length bytes → new ≡ old → Mirrors s r m → Printed s old (goes bytes s') (Err OutputFull) r m new
+    printed_not : {new : List ℕ} {kind : FaultKind} {f : Option Basis} {r : Machine} {m : Cells} → new ≡ old → Mirrors s r m → Printed s old (fails kind f) (Err (Failed kind f)) r m new
+    printed_any : {new : List ℕ} {t : Result ℕ Halt} {r : Machine} {m : Cells} → Printed s old stuck t r m new
 
   -- All but what comes next, below the newest frame and the newest n slots; nothing is in hand.
   pub record Under (n : ℕ) (K : List Frame) (env : Environment) (a : Account) (r : Machine) (m : Cells) : Type 0 where
@@ -92,13 +92,17 @@ pub record Steady (old new : Machine) : Type 0 where
   pub given : old.given ≤ new.given
 
 -- how many bytes a step printed
-abbrev pub printed_bytes : Turn → ℕ
-printed_bytes (Went n) = n
-printed_bytes (Failed kind f) = 0
-printed_bytes Full = 0
+abbrev pub printed_bytes : Result ℕ Halt → ℕ
+printed_bytes (Ok n) = n
+printed_bytes (Err h) = 0
+
+-- what a step that prints nothing came to, where a step may print
+abbrev pub as_printing : Result ⊤ FaultKind → Result ℕ Halt
+as_printing (Ok u) = Ok 0
+as_printing (Err kind) = Err (Failed kind None)
 
 -- Past the bytes printed a lent slice is as it was, and so it is as a whole where none are.
-pub record Spares (t : Turn) (old new : List ℕ) : Type 0 where
+pub record Spares (t : Result ℕ Halt) (old new : List ℕ) : Type 0 where
   pub within : printed_bytes t ≤ length old
   pub past : drop (printed_bytes t) new ≡ drop (printed_bytes t) old
   pub long : length new ≡ length old

@@ -3,20 +3,20 @@
 
 mod control;
 mod frame;
+mod halt;
 mod lets;
 mod machine;
 mod onward;
 mod primitives;
 mod reads;
 mod slot;
-mod turn;
 
 pub use control::Control;
 pub use frame::{Frame, Held};
+pub use halt::Halt;
 pub use lets::bind_next;
 pub use machine::Machine;
 pub use onward::Onward;
-pub use primitives::{finish, go, wait};
+pub use primitives::unprinted;
 pub use reads::{after, code_at, function_at, val_at, value_at};
 pub use slot::Slot;
-pub use turn::Turn;

@@ -15,16 +15,12 @@ pub fn code_at(script: &Compiled, node: usize) -> Code
     ensures used { result.op ≢ Op.Unused → node < 4096 }
     ensures code { result ≡ slice_index_or script.now.code node no_code }
 {
-    let code = &script.code[..];
-    if node < code.len() {
-        code[node]
-    } else {
-        Code {
-            op: Op::Unused,
-            place: 0,
-            past: 0,
-        }
-    }
+    let unused = Code {
+        op: Op::Unused,
+        place: 0,
+        past: 0,
+    };
+    script.code.get(node).copied().unwrap_or(unused)
 }
 
 // The node behind this one.
@@ -38,31 +34,20 @@ pub fn after(node: u16) -> u16
 pub fn function_at(script: &Compiled, number: usize) -> FunctionCode
     ensures { result ≡ slice_index_or script.now.functions number no_function }
 {
-    let functions = &script.functions[..];
-    if number < functions.len() {
-        functions[number]
-    } else {
-        FunctionCode { body: 0, arity: 0 }
-    }
+    let none = FunctionCode { body: 0, arity: 0 };
+    script.functions.get(number).copied().unwrap_or(none)
 }
 
 // The node of a val's expression.
 pub fn val_at(script: &Compiled, number: usize) -> u16
     ensures { result ≡ slice_index script.now.vals number }
 {
-    let vals = &script.vals;
-    if number < vals.len() { vals[number] } else { 0 }
+    script.vals.get(number).copied().unwrap_or(0)
 }
 
 // The value in the slot that lies so deep, if it is full.
 pub fn value_at(slots: &Stack<'_, Slot>, depth: usize) -> Option<Value>
     ensures { result ≡ full_value (slice_get (tops slots.now) depth) }
 {
-    match slots.at_depth(depth) {
-        Some(slot) => match slot {
-            Slot::Full(value) => Some(value),
-            Slot::Empty => None,
-        },
-        None => None,
-    }
+    slots.at_depth(depth)?
 }

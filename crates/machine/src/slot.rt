@@ -1,10 +1,4 @@
-// An entry of the second stack.
+// An entry of the second stack: a bound name's value, or an argument handed over; none where a name's data is consumed.
 use cells::values::Value;
 
-#[derive(Clone, Copy)]
-pub enum Slot {
-    // a bound name's value, or an argument handed over
-    Full(Value),
-    // a name whose data is consumed
-    Empty,
-}
+pub type Slot = Option<Value>;

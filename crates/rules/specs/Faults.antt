@@ -1,5 +1,9 @@
 -- The number of each fault.
 use Rattle.std.specs.Prelude.{ℕ}
+use Rattle.cells.specs.declared.refusals.StoreRefusal.{StoreRefusal}
+use Rattle.cells.specs.declared.refusals.StoreRefusal.TheVariants as store
+use Rattle.cell_data.specs.declared.refusals.WalkRefusal.{WalkRefusal}
+use Rattle.cell_data.specs.declared.refusals.WalkRefusal.TheVariants as walk
 use Rattle.rules.specs.declared.fault.FaultKind.{FaultKind}
 use Rattle.rules.specs.declared.fault.FaultKind.TheVariants.{NoBranch, ZeroDivisor, BadShift, TooFewCells, StackFull, Stuck, AllowanceSpent}
 
@@ -11,3 +15,13 @@ number_of TooFewCells = 34
 number_of StackFull = 35
 number_of Stuck = 36
 number_of AllowanceSpent = 37
+
+-- what a store's refusal is to a run
+abbrev pub store_fault : StoreRefusal → FaultKind
+store_fault store.DeadCell = Stuck
+store_fault store.NoFreeCell = TooFewCells
+
+-- what a walk's refusal is to a run
+abbrev pub walk_fault : WalkRefusal → FaultKind
+walk_fault walk.NoFreeCell = TooFewCells
+walk_fault walk.Stuck = Stuck

@@ -1,7 +1,7 @@
 // What a run answers.
 use super::fault::Fault;
 
-#[derive(Clone, Copy)]
+#[derive(Clone, Copy, PartialEq, Eq)]
 pub enum End {
     // the run is over
     Ended,
@@ -12,7 +12,7 @@ pub enum End {
     OutputFull,
 }
 
-#[derive(Clone, Copy)]
+#[derive(Clone, Copy, PartialEq, Eq)]
 pub struct Advanced {
     pub end: End,
     pub steps: u32,
@@ -21,7 +21,7 @@ pub struct Advanced {
 }
 
 // The whole run's steps, cells taken and cells given back; and whether closing met what no checked script meets over its own store.
-#[derive(Clone, Copy)]
+#[derive(Clone, Copy, PartialEq, Eq)]
 pub struct Closed {
     pub steps: u32,
     pub taken: u64,

@@ -1,12 +1,17 @@
 // Why a run stopped, and where.
 ghost use Rattle.std.specs.Prelude.{◌≡◌};
-ghost use Rattle.rules.specs.Faults.{number_of};
+ghost use Rattle.rules.specs.Faults.{number_of, store_fault, walk_fault};
+ghost use Rattle.rules.specs.Steps.{fault_kind};
+ghost use Rattle.rules.specs.declared.fault.FaultKind.TheVariants as kind;
 
-use basis::Basis;
+use basis::{ArithmeticFault, Basis};
+use cell_data::refusals::WalkRefusal;
+use cells::refusals::StoreRefusal;
 use layout::Word;
+use stack::Full;
 
 // Each case with its number.
-#[derive(Clone, Copy)]
+#[derive(Clone, Copy, PartialEq, Eq)]
 pub enum FaultKind {
     // no branch of a case fits the tested value
     NoBranch = 31,
@@ -32,14 +37,59 @@ impl FaultKind {
     }
 }
 
+// A push finds no room.
+impl From<Full> for FaultKind {
+    ghost from_gives = { λ _ k. k ≡ kind.StackFull };
+
+    fn from(_full: Full) -> FaultKind {
+        FaultKind::StackFull
+    }
+}
+
+// A store has no free cell, or the number is not that of a live one.
+impl From<StoreRefusal> for FaultKind {
+    ghost from_gives = { λ refusal k. k ≡ store_fault refusal };
+
+    fn from(refusal: StoreRefusal) -> FaultKind {
+        match refusal {
+            StoreRefusal::DeadCell => FaultKind::Stuck,
+            StoreRefusal::NoFreeCell => FaultKind::TooFewCells,
+        }
+    }
+}
+
+// A copy needs more cells than are free, or a walk meets what stands for no tree.
+impl From<WalkRefusal> for FaultKind {
+    ghost from_gives = { λ refusal k. k ≡ walk_fault refusal };
+
+    fn from(refusal: WalkRefusal) -> FaultKind {
+        match refusal {
+            WalkRefusal::NoFreeCell => FaultKind::TooFewCells,
+            WalkRefusal::Stuck => FaultKind::Stuck,
+        }
+    }
+}
+
+// Arithmetic has no answer.
+impl From<ArithmeticFault> for FaultKind {
+    ghost from_gives = { λ fault k. k ≡ fault_kind fault };
+
+    fn from(fault: ArithmeticFault) -> FaultKind {
+        match fault {
+            ArithmeticFault::ZeroDivisor => FaultKind::ZeroDivisor,
+            ArithmeticFault::BadShift => FaultKind::BadShift,
+        }
+    }
+}
+
 // The function that a fault names: one of the basis, or a define or val of the script by its name in the text.
-#[derive(Clone, Copy)]
+#[derive(Clone, Copy, PartialEq, Eq)]
 pub enum Named {
     Basis(Basis),
     Text(Word),
 }
 
-#[derive(Clone, Copy)]
+#[derive(Clone, Copy, PartialEq, Eq)]
 pub struct Fault {
     pub kind: FaultKind,
     // the place of the expression that the step enters or hands to

@@ -1,4 +1,5 @@
-// The rules of a run, on trees: definitions and theorems. They know no store and no slice.
+// The rules of a run, on trees: definitions and theorems. They know no store and no slice;
+// only the kind of a fault comes from what a stack, a walk and arithmetic refuse.
 #![tactic(auto)]
 
 mod answers;

@@ -1,19 +1,9 @@
 -- The places of what waits and of what comes next.
-use Rattle.std.proofs.Common.{◌≡◌, ℕ, List, [], ◌∷◌, length, Some, None, Option, sym, refl, ap, ◌∙◌, subst, codes, arith}
-use Rattle.std.specs.List.{slice_get}
-use Rattle.cells.specs.Meaning.{Cells}
-use Rattle.cells.specs.declared.values.Value.{Value}
-use Rattle.grammar.specs.Trees as tree
+use Rattle.std.proofs.Common.{◌≡◌, ℕ, List, ◌∷◌, Some, None, sym, ap, ◌∙◌}
 use Rattle.grammar.specs.Trees.{Expr, place_of}
-use Rattle.machine.proofs.Resting.{waiting_count}
-use Rattle.machine.specs.Holding.{names}
-use Rattle.machine.specs.Mirrors.{Mirrors, mirrors}
-use Rattle.machine.specs.Waiting.{Waits, waits_test, waits_arm, waits_part, waits_binding, waits_leaving, waits_tested, waits_head, waits_argument, waits_field, waits_body, waits_main, Next, next_opened, next_enter, next_finished, next_over}
-use Rattle.machine.specs.declared.control.Control.{Control as Ahead}
-use Rattle.machine.specs.declared.control.Control.TheVariants as ahead
+use Rattle.machine.specs.Waiting.{Waits, waits_test, waits_arm, waits_part, waits_binding, waits_leaving, waits_tested, waits_head, waits_argument, waits_field, waits_body, waits_main}
 use Rattle.machine.specs.declared.frame.Frame.{Frame as Waiting}
-use Rattle.machine.specs.declared.machine.Machine.{Machine}
-use Rattle.program.specs.Programs.{Program, Define, place_meant, first_of}
+use Rattle.program.specs.Programs.{Program, place_meant}
 use Rattle.program.specs.Scopes.{Scope}
 use Rattle.program.specs.Standing as stands
 use Rattle.program.specs.Standing.{at, Stands, Lays}
@@ -21,10 +11,9 @@ use Rattle.program.specs.declared.code.Code.{Code}
 use Rattle.program.specs.declared.code.Op.{Op}
 use Rattle.program.specs.declared.compiled.Compiled.{Compiled}
 use Rattle.rules.specs.Runs.{main_of}
-use Rattle.rules.specs.States.{Environment, Frame, Control, opened, enter, finished, over, Account, State, st}
-use Rattle.rules.specs.Steps.{Sizes, define_place, place_of_frame, step_place}
+use Rattle.rules.specs.States.{Frame}
+use Rattle.rules.specs.Steps.{place_of_frame}
 use Rattle.run.specs.Places.{node_meant}
-use Rattle.stack.specs.Items.{tops}
 
 module _ {P : Program} {cs : List Code} where
   -- a node has the place of what waits there

@@ -11,15 +11,11 @@ use program::{Compiled, Owner};
 fn owner_of(script: &Compiled, number: usize) -> Owner
     ensures { result ≡ slice_index_or script.now.owners number no_owner }
 {
-    let owners = &script.owners[..];
-    if number < owners.len() {
-        owners[number]
-    } else {
-        Owner {
-            place: 0,
-            name: Word { place: 0, size: 0 },
-        }
-    }
+    let none = Owner {
+        place: 0,
+        name: Word { place: 0, size: 0 },
+    };
+    script.owners.get(number).copied().unwrap_or(none)
 }
 
 // The name of the last one that begins at the place or before it.

@@ -28,16 +28,16 @@ fn node_of(frame: Frame) -> Option<u16>
     ensures { result ≡ node_meant frame }
 {
     match frame {
-        Frame::Test(at) => Some(at),
-        Frame::Arm(at) => Some(at),
-        Frame::Part(at, _) => Some(at),
-        Frame::Binding(at, _, _) => Some(at),
-        Frame::Leaving(at, _) => Some(at),
-        Frame::Tested(at) => Some(at),
-        Frame::Head(at) => Some(at),
-        Frame::Argument(at, _, _, _) => Some(at),
-        Frame::Field(at, _) => Some(at),
-        Frame::Body(at, _) => Some(at),
+        Frame::Test(at)
+        | Frame::Arm(at)
+        | Frame::Part(at, _)
+        | Frame::Binding(at, _, _)
+        | Frame::Leaving(at, _)
+        | Frame::Tested(at)
+        | Frame::Head(at)
+        | Frame::Argument(at, _, _, _)
+        | Frame::Field(at, _)
+        | Frame::Body(at, _) => Some(at),
         Frame::Main => None,
     }
 }
@@ -60,7 +60,7 @@ pub fn next_place(machine: &Machine<'_, '_, '_, '_, '_>) -> u16
     match machine.control {
         Control::Opened => machine.script.main_place,
         Control::Enter(node) => place_at(machine.script, node),
-        Control::Finished(_) => match machine.frames.at_depth(0) {
+        Control::Finished(_) => match machine.frames.top() {
             Some(frame) => frame_place(machine.script, frame),
             None => 0,
         },

@@ -12,10 +12,10 @@ ghost use Rattle.rules.specs.Steps.{hand as hands};
 use cells::store::CellStore;
 use cells::values::Value;
 use handing::{
-    hand_argument, hand_arm, hand_binding, hand_body, hand_field, hand_head, hand_leaving,
-    hand_main, hand_part, hand_test, hand_tested,
+    hand_argument, hand_arm, hand_binding, hand_field, hand_head, hand_leaving, hand_main,
+    hand_part, hand_test, hand_tested,
 };
-use machine::{Frame, Machine, Turn};
+use machine::{Frame, Halt, Machine, unprinted};
 
 // By what waits.
 pub fn hand<S: CellStore>(
@@ -24,7 +24,7 @@ pub fn hand<S: CellStore>(
     out: &mut [u8],
     frame: Frame,
     value: Value,
-) -> Turn
+) -> Result<usize, Halt>
     ensures steady { Steady machine.old machine.new }
     ensures spares { Spares result out.old out.new }
     ensures law { (P : Program) (Z : Sizes) (m₀ : Cells) (f : Waits) (K : List Waits) (env : Environment) (a : Account) (t : Tree)
@@ -32,18 +32,18 @@ pub fn hand<S: CellStore>(
         → Printed P Z m₀ (st (f ∷ K) env (has_finished t) a) out.old (hands P Z f K env a t) result machine.new (S.CellStore.cells store.new) out.new }
 {
     match frame {
-        Frame::Test(at) => hand_test(machine, at, value),
-        Frame::Arm(at) => hand_arm(machine, at, value),
-        Frame::Part(at, next) => hand_part(machine, store, at, next, value),
-        Frame::Binding(at, next, count) => hand_binding(machine, at, next, count, value),
-        Frame::Leaving(at, count) => hand_leaving(machine, store, at, count, value),
-        Frame::Tested(at) => hand_tested(machine, store, at, value),
+        Frame::Test(at) => unprinted(hand_test(machine, at, value)),
+        Frame::Arm(at) => unprinted(hand_arm(machine, at, value)),
+        Frame::Part(at, next) => unprinted(hand_part(machine, store, at, next, value)),
+        Frame::Binding(at, next, count) => unprinted(hand_binding(machine, at, next, count, value)),
+        Frame::Leaving(at, count) => unprinted(hand_leaving(machine, store, at, count, value)),
+        Frame::Tested(at) => unprinted(hand_tested(machine, store, at, value)),
         Frame::Head(at) => hand_head(machine, out, at, value),
         Frame::Argument(at, next, held, function) => hand_argument(
             machine, out, at, next, held, function, value,
         ),
-        Frame::Field(at, next) => hand_field(machine, store, at, next, value),
-        Frame::Body(at, count) => hand_body(machine, store, at, count, value),
-        Frame::Main => hand_main(machine, store, value),
+        Frame::Field(at, next) => unprinted(hand_field(machine, store, at, next, value)),
+        Frame::Body(at, count) => unprinted(hand_leaving(machine, store, at, count, value)),
+        Frame::Main => unprinted(hand_main(machine, store, value)),
     }
 }

@@ -13,7 +13,7 @@ use super::dispatch::hand;
 use super::starting::call_main;
 use cells::store::CellStore;
 use entering::enter;
-use machine::{Control, Machine, Turn};
+use machine::{Control, Halt, Machine, unprinted};
 use rules::FaultKind;
 
 // Whatever the machine mirrors, it does what the rules say, and then mirrors what they lead to. What is printed goes to the front of
@@ -22,7 +22,7 @@ pub fn step<S: CellStore>(
     machine: &mut Machine<'_, '_, '_, '_, '_>,
     store: &mut S,
     out: &mut [u8],
-) -> Turn
+) -> Result<usize, Halt>
     ensures steady { Steady machine.old machine.new }
     ensures spares { Spares result out.old out.new }
     ensures law { (P : Program) (Z : Sizes) (m₀ : Cells) (s : State)
@@ -30,14 +30,12 @@ pub fn step<S: CellStore>(
         → Printed P Z m₀ s out.old (steps P Z (main_of P) s) result machine.new (S.CellStore.cells store.new) out.new }
 {
     match machine.control {
-        Control::Opened => call_main(machine),
-        Control::Enter(node) => enter(machine, store, node),
+        Control::Opened => unprinted(call_main(machine)),
+        Control::Enter(node) => unprinted(enter(machine, store, node)),
         Control::Finished(value) => {
-            let Some(frame) = machine.frames.at_depth(0) else {
-                return Turn::Failed(FaultKind::Stuck, None);
-            };
+            let frame = machine.frames.top().ok_or(FaultKind::Stuck)?;
             hand(machine, store, out, frame, value)
         }
-        Control::Over => Turn::Failed(FaultKind::Stuck, None),
+        Control::Over => Err(Halt::from(FaultKind::Stuck)),
     }
 }

@@ -1,23 +1,21 @@
-use Rattle.std.proofs.Common.{◌≡◌, ◌+◌, ◌≤◌, ◌<◌, ◌++◌, [], ◌∷◌, min, sym, refl, ap, ◌∙◌, subst, arith}
-use Rattle.cells.specs.declared.values.Value.TheVariants.{Cell}
-use Rattle.cell_data.proofs.Outs.{join}
+use Rattle.std.proofs.Common.{◌+◌, ◌++◌, [], ◌∷◌, min, sym, refl, ap, ◌∙◌, subst, arith}
 use Rattle.cell_data.specs.Taking.{Out}
 use Rattle.cell_data.specs.Trees.{none, more, built}
 use Rattle.machine.proofs.Building.{built_out, cell_free, cells_full}
 use Rattle.machine.proofs.Cells.{capped_add}
 use Rattle.machine.proofs.Needs.{build_fits, build_lacks}
-use Rattle.machine.proofs.Resting.{entered, renewed, same_store, by_rule}
+use Rattle.machine.proofs.Resting.{entered, renewed, same_store, by_rule, faulted_as}
 use Rattle.machine.specs.Holding.{values_in, trees_in, kept}
-use Rattle.machine.specs.Mirrors.{moved_not}
-use Rattle.rules.specs.States.{takes, environment_size, saved_size}
+use Rattle.rules.specs.Faults.{store_fault}
+use Rattle.rules.specs.States.{takes}
 use Rattle.stack.specs.Items.{tops}
 use Rattle.entering.proofs.builds.build_bare.Goals as goal
 
-pub returns-in-Ok-clause-law : goal.returns-in-Ok-clause-law
-returns-in-Ok-clause-law g c = λ P Z m₀ K env a e M.
+pub returns-clause-law : goal.returns-clause-law
+returns-clause-law g c = λ P Z m₀ K env a e M.
     let R = entered M in
     let r = c.args.machine.now in
-    let took = c.in-Ok.ensures in
+    let took = c.in_ok-cell.ensures in
     let k = c.args.constructor in
     let free = cell_free R took in
     let o : Out (g.S.CellStore.cells c.take.new.self) (c.cell.result ∷ values_in (tops r.slots)) (more (built k none) (trees_in (env ++ kept K))) m₀ =
@@ -27,8 +25,8 @@ returns-in-Ok-clause-law g c = λ P Z m₀ K env a e M.
     (c.finish.ensures.law P Z m₀ _ _ K env (takes 1 a) (built k none) (renewed R r.frames r.slots r.place c.saturating_add-machine.result r.given refl refl R.frames R.full o R.input
     (c.saturating_add-machine.ensures ∙ ap (λ n. min (n + 1) 18446744073709551615) R.taken ∙ capped_add a.taken 1) R.given))
 
-pub returns-in-Err-clause-law : goal.returns-in-Err-clause-law
-returns-in-Err-clause-law g c = λ P Z m₀ K env a e M.
+pub returns-in_err-cell-clause-law : goal.returns-in_err-cell-clause-law
+returns-in_err-cell-clause-law g c = λ P Z m₀ K env a e M.
     let R = entered M in
-    let lacks = cells_full R c.in-Err.ensures in
-    by_rule (build_lacks P Z K env a c.args.constructor none env (omega arith)) (moved_not (same_store c.in-Err.ensures.same M))
+    let lacks = cells_full R c.in_err-cell.ensures in
+    by_rule (build_lacks P Z K env a c.args.constructor none env (omega arith)) (faulted_as c.from_residual.result c.from_residual.ensures.1 (ap store_fault c.in_err-cell.ensures.number) (same_store c.in_err-cell.ensures.same M))

@@ -1,10 +1,9 @@
-use Rattle.std.proofs.Common.{◌≡◌, ◌+◌, ◌<◌, None, ◌∷◌, sym, refl, ap, ◌∙◌, subst, arith}
+use Rattle.std.proofs.Common.{◌≡◌, ◌+◌, None, ◌∷◌, sym, refl, ap, subst, arith}
 use Rattle.entering.proofs.Views.{construct_none, construct_some}
 use Rattle.machine.proofs.Resting.{entered}
 use Rattle.machine.specs.Holding.{names}
 use Rattle.machine.specs.Mirrors.{Moved}
 use Rattle.machine.specs.Waiting.{waits_field}
-use Rattle.program.specs.Compiling.{argument_count}
 use Rattle.program.specs.Standing.{past, StandsArguments}
 use Rattle.program.specs.declared.code.Code.{Code}
 use Rattle.rules.specs.States.{st, enter, next_argument, builds}
@@ -22,7 +21,7 @@ returns-clause-law g c = λ P Z m₀ K env a e p es M here op count S.
     let k = c.args.constructor in
     let first : c.code_at-first.result.past ≡ past P cs (at + 1) = ap (λ (x : Code). x.past) c.code_at-first.ensures.code in
     let next : c.code_at-next.result.past ≡ past P cs c.code_at-first.result.past = ap (λ (x : Code). x.past) c.code_at-next.ensures.code in
-    construct_some P Z p k K env a (λ o. Moved P Z m₀ (st K env (enter e) a) o c.wait.result c.wait.new.machine (g.S.CellStore.cells c.args.store.now))
+    construct_some P Z p k K env a (λ o. Moved P Z m₀ (st K env (enter e) a) o c.wait.result c.wait.new.self (g.S.CellStore.cells c.args.store.now))
     (subst (λ i. StandsArguments P cs (names env) es i (past P cs at)) (sym first) S) (omega arith)
     (λ x xs n l X r. c.wait.ensures.law P Z m₀ _ (st K env (enter e) a) K env env a (next_argument p (builds k) 0 xs) x M (entered M) (record {
       stands = X;

@@ -1,24 +1,19 @@
 use mir.Val.{SFits}
 use mir.Syntax.{w32}
-use Rattle.std.proofs.Common.{rules, [], ◌≡◌, ◌+◌, ◌<◌, None, ◌∷◌, ◌++◌, sym, refl, ap, ◌∙◌, subst, arith}
+use Rattle.std.proofs.Common.{rules, [], ◌≡◌, ◌+◌, ◌<◌, ◌++◌, sym, refl, ap, ◌∙◌, subst, arith}
 use Rattle.std.proofs.lemmas.Int.{to_z-of_z}
 use Rattle.cells.specs.declared.values.Value.TheVariants.{Int}
 use Rattle.cell_data.specs.Standing.{Plain, plain_int, plain_bool, plain_symbol, plain_unit, plain_function}
 use Rattle.cell_data.specs.Trees.{int, bool, symbol, unit, function}
 use Rattle.entering.proofs.Views.{Enters, at_integer, at_symbol, at_boolean, at_unit, at_local, at_dup, at_function, at_val, at_if, at_begin, at_let, at_case, at_call, at_build, calls_wait, function_named, val_named, construct_named, let_waits, no_other}
-use Rattle.machine.proofs.Names.{unseen}
-use Rattle.machine.proofs.Needs.{name_absent}
-use Rattle.machine.proofs.Nodes.{stands_as, stands_used}
+use Rattle.machine.proofs.Nodes.{stands_as}
 use Rattle.machine.proofs.Resting.{entered, entered_at, with_plain, by_rule}
 use Rattle.machine.specs.Holding.{names, kept}
-use Rattle.machine.specs.Mirrors.{Mirrors, Moved}
 use Rattle.machine.specs.Waiting.{waits_test, waits_part, waits_tested, waits_head}
-use Rattle.program.specs.Programs.{global_of}
-use Rattle.program.specs.Programs as means
-use Rattle.program.specs.Standing.{past, StandsAt, StandsRow, StandsArguments, StandsBindings}
+use Rattle.program.specs.Standing.{past, StandsAt, StandsRow, StandsBindings}
 use Rattle.program.specs.declared.code.Code.{Code}
-use Rattle.rules.specs.States.{st, enter, finished, if_test, begin_part, case_test, head_value}
-use Rattle.rules.specs.Steps.{goes, enter_name, enter_global, enter_expr, finish, bind_next}
+use Rattle.rules.specs.States.{st, finished, if_test, begin_part, case_test, head_value}
+use Rattle.rules.specs.Steps.{goes, enter_expr, finish, bind_next}
 use Rattle.entering.proofs.expressions.enter.Goals as goal
 
 pub returns-in-Integer-clause-law : goal.returns-in-Integer-clause-law
@@ -27,7 +22,7 @@ returns-in-Integer-clause-law g c = λ P Z m₀ K env a e M at.
     let r = c.args.machine.now in
     let m = g.S.CellStore.cells c.args.store.now in
     let S = stands_as c.code_at-code.result c.code_at-code.ensures.code c.in-Integer.is (entered_at at M) in
-    at_integer (Enters P Z m₀ K env a r m c.finish.result c.finish.new.machine m) S
+    at_integer (Enters P Z m₀ K env a r m c.finish.result c.finish.new.self m) S
     (λ p M.
     let n = c.in-Integer.number in
     let fits : SFits w32 n = search rules in
@@ -39,7 +34,7 @@ returns-in-Symbol-clause-law g c = λ P Z m₀ K env a e M at.
     let r = c.args.machine.now in
     let m = g.S.CellStore.cells c.args.store.now in
     let S = stands_as c.code_at-code.result c.code_at-code.ensures.code c.in-Symbol.is (entered_at at M) in
-    at_symbol (Enters P Z m₀ K env a r m c.finish-in-Symbol.result c.finish-in-Symbol.new.machine m) S
+    at_symbol (Enters P Z m₀ K env a r m c.finish-in-Symbol.result c.finish-in-Symbol.new.self m) S
     (λ p w is M. by_rule (ap (λ n. goes [] (st K env (finished (symbol n)) a)) is) (c.finish-in-Symbol.ensures.law P Z m₀ m _ K env a (symbol c.in-Symbol.number) (with_plain (entered M) plain_symbol))) M
 
 pub returns-in-Boolean-clause-law : goal.returns-in-Boolean-clause-law
@@ -48,7 +43,7 @@ returns-in-Boolean-clause-law g c = λ P Z m₀ K env a e M at.
     let r = c.args.machine.now in
     let m = g.S.CellStore.cells c.args.store.now in
     let S = stands_as c.code_at-code.result c.code_at-code.ensures.code c.in-Boolean.is (entered_at at M) in
-    at_boolean (Enters P Z m₀ K env a r m c.finish-in-Boolean.result c.finish-in-Boolean.new.machine m) S
+    at_boolean (Enters P Z m₀ K env a r m c.finish-in-Boolean.result c.finish-in-Boolean.new.self m) S
     (λ p M. c.finish-in-Boolean.ensures.law P Z m₀ m _ K env a (bool c.in-Boolean.truth) (with_plain (entered M) plain_bool)) M
 
 pub returns-in-Unit-clause-law : goal.returns-in-Unit-clause-law
@@ -57,7 +52,7 @@ returns-in-Unit-clause-law g c = λ P Z m₀ K env a e M at.
     let r = c.args.machine.now in
     let m = g.S.CellStore.cells c.args.store.now in
     let S = stands_as c.code_at-code.result c.code_at-code.ensures.code c.in-Unit.is (entered_at at M) in
-    at_unit (Enters P Z m₀ K env a r m c.finish-in-Unit.result c.finish-in-Unit.new.machine m) S
+    at_unit (Enters P Z m₀ K env a r m c.finish-in-Unit.result c.finish-in-Unit.new.self m) S
     (λ p M. c.finish-in-Unit.ensures.law P Z m₀ m _ K env a (unit) (with_plain (entered M) plain_unit)) M
 
 pub returns-in-Local-clause-law : goal.returns-in-Local-clause-law
@@ -84,7 +79,7 @@ returns-in-Function-clause-law g c = λ P Z m₀ K env a e M at.
     let r = c.args.machine.now in
     let m = g.S.CellStore.cells c.args.store.now in
     let S = stands_as c.code_at-code.result c.code_at-code.ensures.code c.in-Function.is (entered_at at M) in
-    at_function (Enters P Z m₀ K env a r m c.finish-in-Function.result c.finish-in-Function.new.machine m) S
+    at_function (Enters P Z m₀ K env a r m c.finish-in-Function.result c.finish-in-Function.new.self m) S
     (λ p w d f M. by_rule (function_named P Z p K env a w c.in-Function.number d f) (c.finish-in-Function.ensures.law P Z m₀ m _ K env a (function c.in-Function.number) (with_plain (entered M) plain_function))) M
 
 pub returns-in-Val-clause-law : goal.returns-in-Val-clause-law
@@ -106,7 +101,7 @@ returns-in-If-clause-law g c = λ P Z m₀ K env a e M at.
     let few : c.args.at < 4096 = c.code_at-code.ensures.used (λ e. cc) in
     let next : c.after.result ≡ c.args.at + 1 = c.after.ensures (omega arith) in
     let cs = r.script.now.code in
-    at_if (Enters P Z m₀ K env a r m c.wait.result c.wait.new.machine m) S
+    at_if (Enters P Z m₀ K env a r m c.wait.result c.wait.new.self m) S
     (λ p x y z here X Y V M. c.wait.ensures.law P Z m₀ m _ K env env a (if_test p y z) x M (entered M) (record {
       stands = subst (StandsAt P cs (names env) x) (sym next) X;
       waits = λ fs w. waits_test here Y V w;
@@ -123,7 +118,7 @@ returns-in-Case-clause-law g c = λ P Z m₀ K env a e M at.
     let few : c.args.at < 4096 = c.code_at-code.ensures.used (λ e. cc) in
     let next : c.after-in-Case.result ≡ c.args.at + 1 = c.after-in-Case.ensures (omega arith) in
     let cs = r.script.now.code in
-    at_case (Enters P Z m₀ K env a r m c.wait-in-Case.result c.wait-in-Case.new.machine m) S
+    at_case (Enters P Z m₀ K env a r m c.wait-in-Case.result c.wait-in-Case.new.self m) S
     (λ p x bs here X B M. c.wait-in-Case.ensures.law P Z m₀ m _ K env env a (case_test p bs) x M (entered M) (record {
       stands = subst (StandsAt P cs (names env) x) (sym next) X;
       waits = λ fs w. waits_tested here B w;
@@ -140,7 +135,7 @@ returns-in-Call-clause-law g c = λ P Z m₀ K env a e M at.
     let few : c.args.at < 4096 = c.code_at-code.ensures.used (λ e. cc) in
     let next : c.after-in-Call.result ≡ c.args.at + 1 = c.after-in-Call.ensures (omega arith) in
     let cs = r.script.now.code in
-    at_call (Enters P Z m₀ K env a r m c.wait-in-Call.result c.wait-in-Call.new.machine m) S
+    at_call (Enters P Z m₀ K env a r m c.wait-in-Call.result c.wait-in-Call.new.self m) S
     (λ p x xs here X A M. by_rule (calls_wait P Z K env a p xs X) (c.wait-in-Call.ensures.law P Z m₀ m _ K env env a (head_value p xs) x M (entered M) (record {
       stands = subst (StandsAt P cs (names env) x) (sym next) X;
       waits = λ fs w. waits_head here A w;
@@ -158,7 +153,7 @@ returns-in-Begin-clause-law g c = λ P Z m₀ K env a e M at.
     let next : c.after-first.result ≡ c.args.at + 1 = c.after-first.ensures (omega arith) in
     let cs = r.script.now.code in
     let then : c.code_at-next.result.past ≡ past P cs (c.args.at + 1) = ap (λ (x : Code). x.past) c.code_at-next.ensures.code ∙ ap (past P cs) next in
-    at_begin (Enters P Z m₀ K env a r m c.wait-in-Begin.result c.wait-in-Begin.new.machine m) S
+    at_begin (Enters P Z m₀ K env a r m c.wait-in-Begin.result c.wait-in-Begin.new.self m) S
     (λ p x xs here X B M. c.wait-in-Begin.ensures.law P Z m₀ m _ K env env a (begin_part p xs) x M (entered M) (record {
       stands = subst (StandsAt P cs (names env) x) (sym next) X;
       waits = λ fs w. waits_part here (subst (λ j. StandsRow P cs (names env) xs j (past P cs c.args.at)) (sym then) B) w;
@@ -175,7 +170,7 @@ returns-in-Let-clause-law g c = λ P Z m₀ K env a e M at.
     let few : c.args.at < 4096 = c.code_at-code.ensures.used (λ e. cc) in
     let next : c.after-in-Let.result ≡ c.args.at + 1 = c.after-in-Let.ensures (omega arith) in
     let cs = r.script.now.code in
-    at_let (Enters P Z m₀ K env a r m c.wait-in-Let.result c.wait-in-Let.new.machine m) S
+    at_let (Enters P Z m₀ K env a r m c.wait-in-Let.result c.wait-in-Let.new.self m) S
     (λ p j bs x here n B X M.
     let on = c.bind_next-on.ensures P env p j bs x here (subst (λ i. StandsBindings P cs (names env) bs i j) (sym next) B) X in
     by_rule (let_waits P Z p bs x K env a on.frame on.part (ap (λ n. bind_next P Z p bs x n K env a) n ∙ on.is Z K a)) (c.wait-in-Let.ensures.law P Z m₀ m _ K env env a on.frame on.part M (entered M) (record {

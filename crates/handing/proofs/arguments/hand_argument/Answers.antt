@@ -1,4 +1,5 @@
-use Rattle.std.proofs.Common.{◌≡◌, ◌+◌, ◌<◌, ◌≤◌, suc, inl, inr, true, ◌∷◌, ◌++◌, map, set, drop, None, sym, refl, ap, ◌∙◌, subst, arith}
+use Rattle.machine.specs.declared.halt.Halt.TheVariants.{Failed}
+use Rattle.std.proofs.Common.{Err, ◌≡◌, ◌+◌, ◌<◌, ◌≤◌, suc, inl, inr, true, ◌∷◌, ◌++◌, map, set, drop, None, sym, refl, ap, ◌∙◌, subst, arith}
 use Rattle.cell_data.specs.Taking.{Out}
 use Rattle.cell_data.specs.Trees.{more}
 use Rattle.handing.proofs.Views.{HandedOut, in_hand, waiting_for, on_argument, arguments_next, arguments_done}
@@ -8,7 +9,6 @@ use Rattle.machine.specs.Holding.{names, kept, is_full, values_in, trees_in}
 use Rattle.machine.specs.Mirrors.{Printed, printed_any, printed_not}
 use Rattle.machine.specs.Waiting.{Waits, waits_argument}
 use Rattle.machine.specs.declared.frame.Frame.TheVariants.{Argument}
-use Rattle.machine.specs.declared.turn.Turn.TheVariants.{Failed}
 use Rattle.program.specs.Standing.{past, StandsArguments}
 use Rattle.program.specs.declared.code.Code.{Code}
 use Rattle.rules.specs.States.{st, finished, next_argument, calls, argument}
@@ -21,7 +21,7 @@ unfolding hand
 returns-then-len-room-clause-law c = λ P Z m₀ m f K env a t H speaks.
     let r = c.args.machine.now in
     let out = c.args.out.now in
-    on_argument (HandedOut P Z m₀ K env a t r m out (Failed StackFull None) r m out) (waiting_for H)
+    on_argument (HandedOut P Z m₀ K env a t r m out (Err (Failed StackFull None)) r m out) (waiting_for H)
     (λ p k es here h A w M.
     let R = in_hand H.value M in
     elim (no_entries P Z K env a 1 (proceed P Z p (calls c.args.function) (k + 1) es K (argument t ∷ env) a) (omega (arith, slots_count R, R.slots_room, c.if-len-room.true, c.len.ensures.tops))) [
@@ -37,19 +37,19 @@ returns-then-next-past-clause-law c = λ P Z m₀ m f K env a t H speaks.
     let out = c.args.out.now in
     let n = c.args.function in
     let inner = argument t ∷ env in
-    let pushed = c.in-Ok.ensures in
+    let pushed = c.in_ok-push.ensures in
     let put = c.replace_top.ensures in
     let past_is : c.code_at-past.result.past ≡ past P cs c.args.at = ap (λ (x : Code). x.past) c.code_at-past.ensures.code in
     let later_is : c.code_at-later.result.past ≡ past P cs c.args.next = ap (λ (x : Code). x.past) c.code_at-later.ensures.code in
-    on_argument (HandedOut P Z m₀ K env a t r m out c.go.result c.go.new.machine m out) (waiting_for H)
+    on_argument (HandedOut P Z m₀ K env a t r m out c.unprinted.result c.go.new.self m out) (waiting_for H)
     (λ p k es here h A w M.
     let R = in_hand H.value M in
     let one : suc k ≡ k + 1 = omega arith in
     let below : Waits P cs (drop (k + 1) (names inner)) K H.others = subst (λ i. Waits P cs (drop i (names inner)) K H.others) one w in
     by_printing (entries_fit P Z K env a 1 (proceed P Z p (calls n) (k + 1) es K inner a) (omega (arith, slots_count R, R.slots_room, pushed.fits)))
-    (arguments_next (λ xs. Printed P Z m₀ (st (next_argument p (calls n) k es ∷ K) env (finished t) a) out (proceed P Z p (calls n) (k + 1) xs K inner a) c.go.result c.go.new.machine m out)
+    (arguments_next (λ xs. Printed P Z m₀ (st (next_argument p (calls n) k es ∷ K) env (finished t) a) out (proceed P Z p (calls n) (k + 1) xs K inner a) c.unprinted.result c.go.new.self m out)
     A (subst (λ i. c.args.next < i) past_is c.if-next-past.true)
-    (λ e xs X A. silent refl (c.go.ensures.law P Z m₀ m _ (next_argument p (calls n) (k + 1) xs ∷ K) inner a e
+    (λ e xs X A. silent c.unprinted.ensures.same refl (c.go.ensures.law P Z m₀ m _ (next_argument p (calls n) (k + 1) xs ∷ K) inner a e
     (renewed R c.replace_top.new.self c.push.new.self r.place r.taken r.given put.room pushed.room
     (subst (Waits P cs (names inner) (next_argument p (calls n) (k + 1) xs ∷ K)) (sym (put.tops ∙ ap (λ q. set q 0 (Argument c.args.at c.code_at-later.result.past c.one_more.result n)) H.stacked))
     (waits_argument here (c.one_more.ensures k h) (subst (λ j. StandsArguments P cs (None ∷ names inner) xs j (past P cs c.args.at)) (sym later_is) A) below))

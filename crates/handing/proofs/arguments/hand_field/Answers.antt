@@ -1,4 +1,4 @@
-use Rattle.std.proofs.Common.{◌≡◌, ◌+◌, ◌-◌, ◌<◌, ◌≤◌, suc, inl, inr, true, ◌∷◌, ◌++◌, [], map, set, drop, None, sym, ap, ◌∙◌, subst, arith}
+use Rattle.std.proofs.Common.{Err, ◌≡◌, ◌+◌, ◌-◌, ◌<◌, ◌≤◌, suc, inl, inr, true, ◌∷◌, ◌++◌, [], map, set, drop, None, sym, ap, ◌∙◌, subst, arith}
 use Rattle.cell_data.specs.Taking.{Out}
 use Rattle.cell_data.specs.Trees.{none, more}
 use Rattle.handing.proofs.Views.{HandedBy, in_hand, waiting_for, on_field, arguments_next, arguments_done}
@@ -8,7 +8,6 @@ use Rattle.machine.specs.Holding.{names, kept, is_full, values_in, trees_in}
 use Rattle.machine.specs.Mirrors.{Rests, Moved, moved_any, moved_not}
 use Rattle.machine.specs.Waiting.{Waits, waits_field}
 use Rattle.machine.specs.declared.frame.Frame.TheVariants.{Field}
-use Rattle.machine.specs.declared.turn.Turn.TheVariants.{Failed}
 use Rattle.program.specs.Compiling.{argument_count}
 use Rattle.program.specs.Standing.{past, StandsArguments}
 use Rattle.program.specs.declared.code.Code.{Code}
@@ -22,7 +21,7 @@ unfolding hand
 returns-then-len-room-clause-law g c = λ P Z m₀ f K env a t H.
     let r = c.args.machine.now in
     let m = g.S.CellStore.cells c.args.store.now in
-    on_field (HandedBy P Z m₀ K env a t r m (Failed StackFull None) r m) (waiting_for H)
+    on_field (HandedBy P Z m₀ K env a t r m (Err StackFull) r m) (waiting_for H)
     (λ p q n k es here o count A w M.
     let R = in_hand H.value M in
     elim (no_entries P Z K env a 1 (proceed P Z p (builds q) (k + 1) es K (argument t ∷ env) a) (omega (arith, slots_count R, R.slots_room, c.if-len-room.true, c.len.ensures.tops))) [
@@ -37,17 +36,17 @@ returns-then-next-code-clause-law g c = λ P Z m₀ f K env a t H.
     let cs = r.script.now.code in
     let m = g.S.CellStore.cells c.args.store.now in
     let inner = argument t ∷ env in
-    let pushed = c.in-Ok.ensures in
+    let pushed = c.in_ok-push.ensures in
     let put = c.replace_top.ensures in
     let past_is : c.code_at-code.result.past ≡ past P cs c.args.at = ap (λ (x : Code). x.past) c.code_at-code.ensures.code in
     let later_is : c.code_at-later.result.past ≡ past P cs c.args.next = ap (λ (x : Code). x.past) c.code_at-later.ensures.code in
-    on_field (HandedBy P Z m₀ K env a t r m c.go.result c.go.new.machine m) (waiting_for H)
+    on_field (HandedBy P Z m₀ K env a t r m c.go.result c.go.new.self m) (waiting_for H)
     (λ p q n k es here o count A w M.
     let R = in_hand H.value M in
     let one : suc k ≡ k + 1 = omega arith in
     let below : Waits P cs (drop (k + 1) (names inner)) K H.others = subst (λ i. Waits P cs (drop i (names inner)) K H.others) one w in
     by_rule (entries_fit P Z K env a 1 (proceed P Z p (builds q) (k + 1) es K inner a) (omega (arith, slots_count R, R.slots_room, pushed.fits)))
-    (arguments_next (λ xs. n ≡ k + (1 + argument_count xs) → Moved P Z m₀ (st (next_argument p (builds q) k es ∷ K) env (finished t) a) (proceed P Z p (builds q) (k + 1) xs K inner a) c.go.result c.go.new.machine m)
+    (arguments_next (λ xs. n ≡ k + (1 + argument_count xs) → Moved P Z m₀ (st (next_argument p (builds q) k es ∷ K) env (finished t) a) (proceed P Z p (builds q) (k + 1) xs K inner a) c.go.result c.go.new.self m)
     A (subst (λ i. c.args.next < i) past_is c.if-next-code.true)
     (λ e xs X A count. c.go.ensures.law P Z m₀ m _ (next_argument p (builds q) (k + 1) xs ∷ K) inner a e
     (renewed R c.replace_top.new.self c.push.new.self r.place r.taken r.given put.room pushed.room
@@ -93,10 +92,13 @@ returns-else-count-eq0-clause-law g c = λ P Z m₀ f K env a t H.
     (subst (λ q. Rests P Z m₀ (next_argument p (builds q) held es ∷ K) env a (c.args.value ∷ []) (more t none) r m) constructor (subst (λ k. Rests P Z m₀ (next_argument p (builds q) k es ∷ K) env a (c.args.value ∷ []) (more t none) r m) all R))
     H.stacked (subst (λ k. Waits P cs (drop k (names env)) K H.others) all w) few)) count)) H.mirrored
 
-pub returns-in_default-op-clause-law : goal.returns-in_default-op-clause-law
-returns-in_default-op-clause-law g c = λ P Z m₀ f K env a t H.
-    let r = c.args.machine.now in
-    let m = g.S.CellStore.cells c.args.store.now in
-    let code = c.code_at-code.ensures.code in
-    on_field (HandedBy P Z m₀ K env a t r m _ r m) (waiting_for H)
-    (λ p q n k es here o count A w M. absurd (c.in_default-op.not-Build q n (ap (λ (x : Code). x.op) code ∙ o))) H.mirrored
+pub returns-in_default : goal.returns-in_default
+returns-in_default g c = record {
+  steady = record { taken = omega arith; given = omega arith };
+  law = λ P Z m₀ f K env a t H.
+      let r = c.args.machine.now in
+      let m = g.S.CellStore.cells c.args.store.now in
+      let code = c.code_at-code.ensures.code in
+      on_field (HandedBy P Z m₀ K env a t r m _ r m) (waiting_for H)
+      (λ p q n k es here o count A w M. absurd (c.in_default.not-Build q n (ap (λ (x : Code). x.op) code ∙ o))) H.mirrored;
+}

@@ -32,14 +32,14 @@ returns-then-first-past-clause-law c = λ P Z m₀ m f K env a t H.
     let past_is : c.code_at-past.result.past ≡ past P cs c.args.at = ap (λ (x : Code). x.past) c.code_at-past.ensures.code in
     let first_is : c.code_at-first.result.past ≡ past P cs (c.args.at + 1) = ap (λ (x : Code). x.past) c.code_at-first.ensures.code in
     let next_is : c.code_at-next.result.past ≡ past P cs c.code_at-first.result.past = ap (λ (x : Code). x.past) c.code_at-next.ensures.code in
-    on_head (HandedOut P Z m₀ K env a t r m out c.go.result c.go.new.machine m out) (waiting_for H)
+    on_head (HandedOut P Z m₀ K env a t r m out c.unprinted.result c.go.new.self m out) (waiting_for H)
     (λ p es here A w M.
     let R = in_hand H.value M in
     let d = tree_function c.in-Function.is R.data_held in
     by_printing (ap (head_handed P Z p es K env a) d.0)
-    (arguments_next (λ xs. Printed P Z m₀ (st (head_value p es ∷ K) env (finished t) a) out (proceed P Z p (calls n) 0 xs K env a) c.go.result c.go.new.machine m out)
+    (arguments_next (λ xs. Printed P Z m₀ (st (head_value p es ∷ K) env (finished t) a) out (proceed P Z p (calls n) 0 xs K env a) c.unprinted.result c.go.new.self m out)
     (subst (λ i. StandsArguments P cs (names env) es i (past P cs c.args.at)) (sym first_is) A) (subst (λ i. c.code_at-first.result.past < i) past_is c.if-first-past.true)
-    (λ e es X A. silent refl (c.go.ensures.law P Z m₀ m _ (next_argument p (calls n) 0 es ∷ K) env a e
+    (λ e es X A. silent c.unprinted.ensures.same refl (c.go.ensures.law P Z m₀ m _ (next_argument p (calls n) 0 es ∷ K) env a e
     (renewed R c.replace_top.new.self r.slots r.place r.taken r.given put.room refl
     (subst (Waits P cs (names env) (next_argument p (calls n) 0 es ∷ K)) (sym (put.tops ∙ ap (λ q. set q 0 (Argument c.args.at c.code_at-next.result.past held.None n)) H.stacked))
     (waits_argument here refl (subst (λ j. StandsArguments P cs (None ∷ names env) es j (past P cs c.args.at)) (sym next_is) A) w)) R.full d.1 R.input R.taken R.given) X)))) H.mirrored

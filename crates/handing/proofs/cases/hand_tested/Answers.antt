@@ -1,13 +1,12 @@
-use Rattle.std.proofs.Common.{sym, ◌∷◌, None, refl, ap, subst, arith}
+use Rattle.std.proofs.Common.{Err, Some, ◌∙◌, sym, ◌∷◌, ap, subst, arith}
 use Rattle.cell_data.specs.Trees.{built}
 use Rattle.handing.proofs.Opened.{dead_cell, no_tested, below_case, on_opened, branches_at, constructor_read}
 use Rattle.handing.proofs.Views.{in_hand, waiting_for, on_tested}
-use Rattle.handing.specs.Choosing.{ChosenNone, ChosenAny, ChosenFields}
+use Rattle.handing.specs.Choosing.{Chosen, ChosenNone, ChosenAny, ChosenFields}
 use Rattle.machine.proofs.Resting.{by_rule}
 use Rattle.machine.specs.Holding.{names}
 use Rattle.machine.specs.Mirrors.{Hands, Moved, moved_not, moved_any}
 use Rattle.machine.specs.declared.frame.Frame.TheVariants.{Tested}
-use Rattle.machine.specs.declared.turn.Turn.TheVariants.{Failed}
 use Rattle.program.specs.declared.code.Code.{Code}
 use Rattle.rules.specs.States.{st, case_test, finished}
 use Rattle.rules.specs.Steps.{hand, tested_handed}
@@ -18,17 +17,16 @@ pub returns-in_default : goal.returns-in_default
 unfolding hand
 returns-in_default g c = record {
   steady = record { taken = omega arith; given = omega arith };
-  silent = refl;
   law = λ P Z m₀ f K env a t H.
       let r = c.args.machine.now in
       let m = g.S.CellStore.cells c.args.store.now in
-      on_tested (λ f. Hands P Z m₀ f K env a t (Tested c.args.at) c.args.value r m → Moved P Z m₀ (st (f ∷ K) env (finished t) a) (hand P Z f K env a t) (Failed Stuck None) r m) (waiting_for H)
+      on_tested (λ f. Hands P Z m₀ f K env a t (Tested c.args.at) c.args.value r m → Moved P Z m₀ (st (f ∷ K) env (finished t) a) (hand P Z f K env a t) (Err Stuck) r m) (waiting_for H)
       (λ p bs here B w H. by_rule (no_tested P Z p bs K env a t c.in_default.not-Cell (in_hand H.value H.mirrored).data_held) moved_any) H;
 }
 
-pub returns-in_default-record_of-clause-law : goal.returns-in_default-record_of-clause-law
+pub returns-in_err-contents-clause-law : goal.returns-in_err-contents-clause-law
 unfolding hand
-returns-in_default-record_of-clause-law g c = λ P Z m₀ f K env a t H. absurd (dead_cell c.in-Cell.is (sym c.in_default-record_of.ensures.is) (in_hand H.value H.mirrored).data_held)
+returns-in_err-contents-clause-law g c = λ P Z m₀ f K env a t H. absurd (dead_cell c.in-Cell.is (sym c.record_of.ensures.is ∙ c.in_err-contents.ensures.ok_part) (in_hand H.value H.mirrored).data_held)
 
 pub returns-in-None-clause-law : goal.returns-in-None-clause-law
 unfolding hand tested_handed
@@ -36,28 +34,28 @@ returns-in-None-clause-law g c = λ P Z m₀ f K env a t H.
     let r = c.args.machine.now in
     let cs = r.script.now.code in
     let m = g.S.CellStore.cells c.args.store.now in
-    on_opened (λ f t. Moved P Z m₀ (st (f ∷ K) env (finished t) a) (hand P Z f K env a t) (Failed NoBranch None) r m) c.in-Cell.is
+    on_opened (λ f t. Moved P Z m₀ (st (f ∷ K) env (finished t) a) (hand P Z f K env a t) (Err NoBranch) r m) c.in-Cell.is
     (λ p bs k vs H.
     let R = in_hand H.value H.mirrored in
     let B = branches_at c.args.at (ap (λ (x : Code). x.past) c.code_at-first.ensures.code) (ap (λ (x : Code). x.past) c.code_at-past.ensures.code) (below_case (waiting_for H)).branches in
-    let C = subst (ChosenNone P cs (names env) bs) (constructor_read c.in-Cell.is (sym c.in-Some.ensures.is) R.data_held) (c.in-None.ensures P (names env) bs R.ready.forward B) in
+    let C = subst (ChosenNone P cs (names env) bs) (constructor_read c.in-Cell.is (sym c.record_of.ensures.is ∙ c.in_ok-contents.ensures.ok_part) R.data_held) (c.in-None.ensures P (names env) bs R.ready.forward B) in
     by_rule (C.is Z p vs K env a) (moved_not H.mirrored)) H
 
-pub returns-in-Any-clause-law : goal.returns-in-Any-clause-law
+pub returns-in-Some-Any-clause-law : goal.returns-in-Some-Any-clause-law
 unfolding hand tested_handed
-returns-in-Any-clause-law g c = λ P Z m₀ f K env a t H.
+returns-in-Some-Any-clause-law g c = λ P Z m₀ f K env a t H.
     let r = c.args.machine.now in
     let cs = r.script.now.code in
     on_opened (λ f t. Moved P Z m₀ (st (f ∷ K) env (finished t) a) (hand P Z f K env a t) c.take_any.result c.take_any.new.machine (g.S.CellStore.cells c.take_any.new.store)) c.in-Cell.is
     (λ p bs k vs H.
     let R = in_hand H.value H.mirrored in
     let B = branches_at c.args.at (ap (λ (x : Code). x.past) c.code_at-first.ensures.code) (ap (λ (x : Code). x.past) c.code_at-past.ensures.code) (below_case (waiting_for H)).branches in
-    let C = subst (λ k. ChosenAny P cs (names env) bs k c.in-Any.branch) (constructor_read c.in-Cell.is (sym c.in-Some.ensures.is) R.data_held) (c.in-Any.ensures P (names env) bs R.ready.forward B) in
+    let C = subst (λ k. ChosenAny P cs (names env) bs k c.in-Some-Any.branch) (constructor_read c.in-Cell.is (sym c.record_of.ensures.is ∙ c.in_ok-contents.ensures.ok_part) R.data_held) (subst (Chosen P cs (names env) bs c.in_ok-contents.contents.constructor) (c.in-Some-Any.is ∙ ap Some c.in-Some-Any.field-0-is) (c.choose.ensures P (names env) bs R.ready.forward B)) in
     c.take_any.ensures.law P Z m₀ p bs K env a k vs (subst (λ v. Hands P Z m₀ (case_test p bs) K env a (built k vs) (Tested c.args.at) v r (g.S.CellStore.cells c.args.store.now)) c.in-Cell.is H) C) H
 
-pub returns-in-Fields-clause-law : goal.returns-in-Fields-clause-law
+pub returns-in-Some-Fields-clause-law : goal.returns-in-Some-Fields-clause-law
 unfolding hand tested_handed
-returns-in-Fields-clause-law g c = λ P Z m₀ f K env a t H.
+returns-in-Some-Fields-clause-law g c = λ P Z m₀ f K env a t H.
     let r = c.args.machine.now in
     let cs = r.script.now.code in
     let m = g.S.CellStore.cells c.args.store.now in
@@ -65,5 +63,5 @@ returns-in-Fields-clause-law g c = λ P Z m₀ f K env a t H.
     (λ p bs k vs H.
     let R = in_hand H.value H.mirrored in
     let B = branches_at c.args.at (ap (λ (x : Code). x.past) c.code_at-first.ensures.code) (ap (λ (x : Code). x.past) c.code_at-past.ensures.code) (below_case (waiting_for H)).branches in
-    let C = subst (λ k. ChosenFields P cs (names env) bs k c.in-Fields.branch c.in-Fields.mask) (constructor_read c.in-Cell.is (sym c.in-Some.ensures.is) R.data_held) (c.in-Fields.ensures P (names env) bs R.ready.forward B) in
-    c.take_fields.ensures.law P Z m₀ p bs K env a k vs (subst (λ v. Hands P Z m₀ (case_test p bs) K env a (built k vs) (Tested c.args.at) v r m) c.in-Cell.is H) (sym c.in-Some.ensures.is) C) H
+    let C = subst (λ k. ChosenFields P cs (names env) bs k c.in-Some-Fields.branch c.in-Some-Fields.mask) (constructor_read c.in-Cell.is (sym c.record_of.ensures.is ∙ c.in_ok-contents.ensures.ok_part) R.data_held) (subst (Chosen P cs (names env) bs c.in_ok-contents.contents.constructor) (c.in-Some-Fields.is ∙ ap Some c.in-Some-Fields.field-0-is) (c.choose.ensures P (names env) bs R.ready.forward B)) in
+    c.take_fields.ensures.law P Z m₀ p bs K env a k vs (subst (λ v. Hands P Z m₀ (case_test p bs) K env a (built k vs) (Tested c.args.at) v r m) c.in-Cell.is H) (sym c.record_of.ensures.is ∙ c.in_ok-contents.ensures.ok_part) C) H

@@ -12,9 +12,9 @@ use Rattle.program.specs.Standing.{StandsAt}
 use Rattle.rules.specs.States.{scope_end, gives}
 use Rattle.handing.proofs.cases.take_any.Goals as goal
 
-pub returns-in_default-clause-law : goal.returns-in_default-clause-law
-returns-in_default-clause-law g c = λ P Z m₀ p bs K env a k vs H A.
-    let h = drop_held c.in_default.ensures (in_hand H.value H.mirrored).data_held in
+pub returns-in_err-count-clause-law : goal.returns-in_err-count-clause-law
+returns-in_err-count-clause-law g c = λ P Z m₀ p bs K env a k vs H A.
+    let h = drop_held c.in_err-count.ensures (in_hand H.value H.mirrored).data_held in
     let is = h.0 in
     absurd (cc)
 
@@ -27,9 +27,9 @@ returns-clause-law g c = λ P Z m₀ p bs K env a k vs H A.
     let put = c.replace_top.ensures in
     let R = in_hand H.value H.mirrored in
     let B = below_case (waiting_for H) in
-    let d = drop_held c.in-Ok.ensures R.data_held in
+    let d = drop_held c.in_ok-count.ensures R.data_held in
     let freed = d.0 in
-    let count : c.in-Ok.count ≡ n = cc in
+    let count : c.in_ok-count.count ≡ n = cc in
     let node : c.after.result ≡ c.args.branch + 1 = c.after.ensures (omega (arith, A.within)) in
     by_rule (A.is Z p vs K env a)
     (c.go.ensures.law P Z m₀ m' _ (scope_end p 0 ∷ K) env (gives n a) A.expr

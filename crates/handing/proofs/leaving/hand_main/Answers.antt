@@ -1,3 +1,4 @@
+use Rattle.std.specs.Prelude.{Ok}
 use Rattle.std.proofs.Common.{◌≡◌, ◌+◌, [], ◌++◌, map, drop, min, refl, sym, ap, ◌∙◌, subst, arith}
 use Rattle.cell_data.proofs.Moves.{drop_held}
 use Rattle.cell_data.specs.Taking.{Out}
@@ -11,14 +12,13 @@ use Rattle.machine.specs.Holding.{kept, holds, values_in, trees_in}
 use Rattle.machine.specs.Mirrors.{moved_on, mirrors}
 use Rattle.machine.specs.Waiting.{Waits, next_over}
 use Rattle.machine.specs.declared.control.Control.TheVariants.{Over}
-use Rattle.machine.specs.declared.turn.Turn.TheVariants.{Went}
 use Rattle.rules.specs.States.{environment_size}
 use Rattle.rules.specs.Steps.{hand}
 use Rattle.handing.proofs.leaving.hand_main.Goals as goal
 
-pub returns-in_default-clause-law : goal.returns-in_default-clause-law
-returns-in_default-clause-law g c = λ P Z m₀ f K env a t H.
-    let h = drop_held c.in_default.ensures (in_hand H.value H.mirrored).data_held in
+pub returns-in_err-count-clause-law : goal.returns-in_err-count-clause-law
+returns-in_err-count-clause-law g c = λ P Z m₀ f K env a t H.
+    let h = drop_held c.in_err-count.ensures (in_hand H.value H.mirrored).data_held in
     let is = h.0 in
     absurd (cc)
 
@@ -30,13 +30,13 @@ returns-clause-law g c = λ P Z m₀ f K env a t H.
     let m = g.S.CellStore.cells c.args.store.now in
     let m' = g.S.CellStore.cells c.drop_value.new.store in
     let cut = c.cut.ensures in
-    on_main (HandedBy P Z m₀ K env a t r m (Went 0) (changed r c.cut.new.self r.slots Over r.place r.taken c.saturating_add-machine.result) m') (waiting_for H)
+    on_main (HandedBy P Z m₀ K env a t r m (Ok tt) (changed r c.cut.new.self r.slots Over r.place r.taken c.saturating_add-machine.result) m') (waiting_for H)
     (λ p d at place bare w M.
     let R = in_hand H.value M in
     let none_left : env ≡ [] = no_names env bare in
-    let h = drop_held c.in-Ok.ensures R.data_held in
+    let h = drop_held c.in_ok-count.ensures R.data_held in
     let is = h.0 in
-    let number : c.in-Ok.count ≡ size t = cc in
+    let number : c.in_ok-count.count ≡ size t = cc in
     let total : size t ≡ environment_size env + size t = omega (arith, ap environment_size none_left) in
     moved_on (mirrors (then (renewed R c.cut.new.self r.slots r.place r.taken c.saturating_add-machine.result cut.room refl
     (subst (Waits P cs [] K) (sym (cut.tops ∙ ap (drop 1) H.stacked)) w) (R.full ∙ ap (λ e. map holds (e ++ kept K)) none_left)

@@ -11,5 +11,5 @@ unfolding hand finish
 returns-clause-law c = λ P Z m₀ m f K env a t H.
     let r = c.args.machine.now in
     let cut = c.cut.ensures in
-    on_arm (HandedBy P Z m₀ K env a t r m c.finish.result c.finish.new.machine m) (waiting_for H)
+    on_arm (HandedBy P Z m₀ K env a t r m c.finish.result c.finish.new.self m) (waiting_for H)
     (λ p here w M. c.finish.ensures.law P Z m₀ m _ K env a t (reframed (in_hand H.value M) c.cut.new.self cut.room (subst (Waits P r.script.now.code (names env) K) (sym (cut.tops ∙ ap (drop 1) H.stacked)) w) refl)) H.mirrored

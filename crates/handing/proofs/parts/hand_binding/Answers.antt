@@ -1,40 +1,38 @@
-use Rattle.std.proofs.Common.{◌≡◌, ◌+◌, suc, ◌∷◌, ◌++◌, [], true, set, drop, map, None, sym, refl, ap, ◌∙◌, subst, arith}
+use Rattle.std.proofs.Common.{◌≡◌, ◌+◌, suc, ◌∷◌, ◌++◌, [], true, set, drop, map, sym, refl, ap, ◌∙◌, subst, arith}
 use Rattle.cell_data.specs.Taking.{Out}
 use Rattle.handing.proofs.Views.{HandedBy, in_hand, waiting_for, on_binding}
 use Rattle.machine.proofs.Needs.{entries_fit, entries_lack}
 use Rattle.handing.proofs.Tests.{let_goes}
-use Rattle.machine.proofs.Resting.{changed, renewed, unmoved, slots_count, by_rule}
+use Rattle.machine.proofs.Resting.{changed, renewed, unmoved, faulted, slots_count, by_rule}
 use Rattle.machine.specs.Holding.{names, is_full, holds, values_in, trees_in, kept}
-use Rattle.machine.specs.Mirrors.{moved_not}
 use Rattle.machine.specs.Waiting.{Waits}
-use Rattle.machine.specs.declared.turn.Turn.TheVariants.{Failed}
 use Rattle.rules.specs.States.{full, st, enter}
 use Rattle.rules.specs.Steps.{goes, needs, has_entries, hand}
 use Rattle.rules.specs.declared.fault.FaultKind.TheVariants.{StackFull}
 use Rattle.stack.specs.Items.{tops}
 use Rattle.handing.proofs.parts.hand_binding.Goals as goal
 
-pub returns-in_default-clause-law : goal.returns-in_default-clause-law
+pub returns-in_err-push-clause-law : goal.returns-in_err-push-clause-law
 unfolding hand
-returns-in_default-clause-law c = λ P Z m₀ m f K env a t H.
+returns-in_err-push-clause-law c = λ P Z m₀ m f K env a t H.
     let r = c.args.machine.now in
-    let same = c.in_default.ensures in
-    on_binding (HandedBy P Z m₀ K env a t r m (Failed StackFull None) (changed r r.frames c.push.new.self r.control r.place r.taken r.given) m) (waiting_for H)
+    let same = c.in_err-push.ensures in
+    on_binding (HandedBy P Z m₀ K env a t r m c.from_residual.result (changed r r.frames c.push.new.self r.control r.place r.taken r.given) m) (waiting_for H)
     (λ p k b x bs e here n B E w M.
     let R = in_hand H.value M in
     let g = let_goes P Z p bs e c.args.count K (full x.bytes t ∷ env) a in
     by_rule (ap (needs StackFull (has_entries P Z 1 K env)) g.1 ∙ entries_lack P Z K env a 1 [] g.0 (omega (arith, slots_count R, R.slots_room, same.fits)))
-    (moved_not (unmoved M r.frames c.push.new.self refl refl same.room same.tops))) H.mirrored
+    (faulted c.from_residual.result c.from_residual.ensures.1 (unmoved M r.frames c.push.new.self refl refl same.room same.tops))) H.mirrored
 
 pub returns-clause-law : goal.returns-clause-law
 unfolding hand
 returns-clause-law c = λ P Z m₀ m f K env a t H.
     let r = c.args.machine.now in
     let cs = r.script.now.code in
-    let pushed = c.in-Ok.ensures in
+    let pushed = c.in_ok-push.ensures in
     let put = c.replace_top.ensures in
     let on = c.bind_next-on.result in
-    on_binding (HandedBy P Z m₀ K env a t r m c.go.result c.go.new.machine m) (waiting_for H)
+    on_binding (HandedBy P Z m₀ K env a t r m c.go.result c.go.new.self m) (waiting_for H)
     (λ p k b x bs e here n B E w M.
     let R = in_hand H.value M in
     let inner = full x.bytes t ∷ env in

@@ -14,10 +14,10 @@ use Rattle.rules.specs.States.{st, begin_part, finished, gives}
 use Rattle.rules.specs.Steps.{hand, part_handed, finish}
 use Rattle.handing.proofs.parts.hand_part.Goals as goal
 
-pub returns-in_default-clause-law : goal.returns-in_default-clause-law
+pub returns-in_err-count-clause-law : goal.returns-in_err-count-clause-law
 unfolding hand part_handed
-returns-in_default-clause-law g c = λ P Z m₀ f K env a t H.
-    let h = drop_held c.in_default.ensures (in_hand H.value H.mirrored).data_held in
+returns-in_err-count-clause-law g c = λ P Z m₀ f K env a t H.
+    let h = drop_held c.in_err-count.ensures (in_hand H.value H.mirrored).data_held in
     let is = h.0 in
     absurd (cc)
 
@@ -31,13 +31,13 @@ returns-then-next-past-clause-law g c = λ P Z m₀ f K env a t H.
     let put = c.replace_top.ensures in
     let past_is : c.code_at-past.result.past ≡ past P cs c.args.at = ap (λ (x : Code). x.past) c.code_at-past.ensures.code in
     let later : c.code_at-later.result.past ≡ past P cs c.args.next = ap (λ (x : Code). x.past) c.code_at-later.ensures.code in
-    on_part (HandedBy P Z m₀ K env a t r m c.go.result c.go.new.machine m') (waiting_for H)
+    on_part (HandedBy P Z m₀ K env a t r m c.go.result c.go.new.self m') (waiting_for H)
     (λ p es here S w M.
     let R = in_hand H.value M in
-    let d = drop_held c.in-Ok.ensures R.data_held in
+    let d = drop_held c.in_ok-count.ensures R.data_held in
     let freed = d.0 in
-    let count : c.in-Ok.count ≡ size t = cc in
-    row_next (λ es. Moved P Z m₀ (st (begin_part p es ∷ K) env (finished t) a) (part_handed P Z p es K env a t) c.go.result c.go.new.machine m') S (subst (λ n. c.args.next < n) past_is c.if-next-past.true)
+    let count : c.in_ok-count.count ≡ size t = cc in
+    row_next (λ es. Moved P Z m₀ (st (begin_part p es ∷ K) env (finished t) a) (part_handed P Z p es K env a t) c.go.result c.go.new.self m') S (subst (λ n. c.args.next < n) past_is c.if-next-past.true)
     (λ e es X S. c.go.ensures.law P Z m₀ m' _ (begin_part p es ∷ K) env (gives (size t) a) e
     (renewed R c.replace_top.new.self r.slots r.place r.taken c.saturating_add-machine.result put.room refl
     (subst (Waits P cs (names env) (begin_part p es ∷ K)) (sym (put.tops ∙ ap (λ q. set q 0 (Part c.args.at c.code_at-later.result.past)) H.stacked))
@@ -52,7 +52,7 @@ returns-clause-law g c = λ P Z m₀ f K env a t H.
     let m = g.S.CellStore.cells c.args.store.now in
     let cut = c.cut.ensures in
     let past_is : c.code_at-past.result.past ≡ past P cs c.args.at = ap (λ (x : Code). x.past) c.code_at-past.ensures.code in
-    on_part (HandedBy P Z m₀ K env a t r m c.finish.result c.finish.new.machine m) (waiting_for H)
+    on_part (HandedBy P Z m₀ K env a t r m c.finish.result c.finish.new.self m) (waiting_for H)
     (λ p es here S w M.
-    row_done (λ es. Moved P Z m₀ (st (begin_part p es ∷ K) env (finished t) a) (part_handed P Z p es K env a t) c.finish.result c.finish.new.machine m) S (subst (λ n. n ≤ c.args.next) past_is c.if-next-past.false)
+    row_done (λ es. Moved P Z m₀ (st (begin_part p es ∷ K) env (finished t) a) (part_handed P Z p es K env a t) c.finish.result c.finish.new.self m) S (subst (λ n. n ≤ c.args.next) past_is c.if-next-past.false)
     (c.finish.ensures.law P Z m₀ m _ K env a t (reframed (in_hand H.value M) c.cut.new.self cut.room (subst (Waits P cs (names env) K) (sym (cut.tops ∙ ap (drop 1) H.stacked)) w) refl))) H.mirrored

@@ -27,7 +27,7 @@ returns-then-test-clause-law c = λ P Z m₀ m f K env a t H.
     let put = c.replace_top.ensures in
     let arm = ap (λ (x : Code). x.past) c.code_at-arm.ensures.code in
     let is : c.args.value ≡ Truth true = c.in-Bool.is ∙ ap Truth c.if-test.true in
-    on_test (HandedBy P Z m₀ K env a t r m c.go.result c.go.new.machine m) (waiting_for H)
+    on_test (HandedBy P Z m₀ K env a t r m c.go.result c.go.new.self m) (waiting_for H)
     (λ p x y here X Y w M.
     let R = in_hand H.value M in
     let d = tree_bool is R.data_held in
@@ -44,7 +44,7 @@ returns-clause-law c = λ P Z m₀ m f K env a t H.
     let arm = ap (λ (x : Code). x.past) c.code_at-arm.ensures.code in
     let other = ap (λ (x : Code). x.past) c.code_at-other.ensures.code ∙ ap (past P r.script.now.code) arm in
     let is : c.args.value ≡ Truth false = c.in-Bool.is ∙ ap Truth c.if-test.false in
-    on_test (HandedBy P Z m₀ K env a t r m c.go-2.result c.go-2.new.machine m) (waiting_for H)
+    on_test (HandedBy P Z m₀ K env a t r m c.go-2.result c.go-2.new.self m) (waiting_for H)
     (λ p x y here X Y w M.
     let R = in_hand H.value M in
     let d = tree_bool is R.data_held in

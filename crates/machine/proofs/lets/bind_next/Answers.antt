@@ -1,4 +1,4 @@
-use Rattle.std.proofs.Common.{◌≡◌, ◌<◌, ◌∙◌, sym, ap, arith}
+use Rattle.std.proofs.Common.{◌<◌, ◌∙◌, sym, ap, arith}
 use Rattle.program.specs.declared.code.Code.{Code}
 use Rattle.machine.proofs.LetLaws.{goes_further, goes_in}
 use Rattle.machine.proofs.lets.bind_next.Goals as goal

@@ -1,4 +1,4 @@
-use Rattle.std.proofs.Common.{◌≡◌, ◌∷◌, [], refl, sym, ◌∙◌}
+use Rattle.std.proofs.Common.{◌≡◌, refl, sym, ◌∙◌}
 use Rattle.handing.proofs.Views.{waiting_for, in_hand}
 use Rattle.machine.proofs.Resting.{entered_at}
 use Rattle.machine.specs.Holding.{names}
@@ -16,10 +16,10 @@ returns-in-Enter c = λ P Z m₀ m s M.
 pub returns-in-Some : goal.returns-in-Some
 returns-in-Some c = λ P Z m₀ m s M.
     on_finished (λ s. c.frame_place.result ≡ step_place (main_of P) s) s M c.in-Finished.is
-    (λ K env a t M. on_waiting K (λ K. c.frame_place.result ≡ step_place (main_of P) (st K env (finished t) a)) M c.in-Finished.is (sym c.at_depth.ensures ∙ c.in-Some.is)
+    (λ K env a t M. on_waiting K (λ K. c.frame_place.result ≡ step_place (main_of P) (st K env (finished t) a)) M c.in-Finished.is (sym c.top.ensures ∙ c.in-Some.is)
     (λ f K H. c.frame_place.ensures P (names env) f K H.others (in_hand H.value H.mirrored).ready.lays (waiting_for H)))
 
 pub returns-in-None : goal.returns-in-None
 returns-in-None c = λ P Z m₀ m s M.
     on_finished (λ s. 0 ≡ step_place (main_of P) s) s M c.in-Finished.is
-    (λ K env a t M. on_none K (λ K. 0 ≡ step_place (main_of P) (st K env (finished t) a)) M (sym c.at_depth.ensures ∙ c.in-None.is) refl)
+    (λ K env a t M. on_none K (λ K. 0 ≡ step_place (main_of P) (st K env (finished t) a)) M (sym c.top.ensures ∙ c.in-None.is) refl)

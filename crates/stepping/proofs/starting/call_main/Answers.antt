@@ -20,7 +20,7 @@ returns-clause-law c = λ P Z m₀ m K env a M.
     let cs = r.script.now.code in
     let R = rests M in
     let none = no_entries M in
-    elim (main_of P) as (λ d. main_of P ≡ d → Moved P Z m₀ (st K env opened a) (main_called P Z K env a d) c.wait.result c.wait.new.machine m) [
+    elim (main_of P) as (λ d. main_of P ≡ d → Moved P Z m₀ (st K env opened a) (main_called P Z K env a d) c.wait.result c.wait.new.self m) [
       | None ↦ λ e. moved_any
       | Some d ↦ λ e.
           let D = R.ready.lays.defines r.script.now.main d (R.ready.lays.main d e) in
