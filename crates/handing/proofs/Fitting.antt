@@ -1,8 +1,8 @@
 -- Fields bound one by one.
-use Rattle.std.proofs.Common.{◌≡◌, ℕ, suc, ◌+◌, ◌/◌, ◌%◌, ◌<◌, ◌≤◌, true, false, List, [], ◌∷◌, ◌++◌, map, length, get_or, take, drop, min, Some, Option, pos, ◌==◌, sym, refl, ap, ◌∙◌, subst, arith}
+use Rattle.std.proofs.Common.{◌≡◌, ℕ, suc, ◌+◌, ◌/◌, ◌%◌, ◌<◌, ◌≤◌, true, false, List, [], ◌∷◌, ◌++◌, map, length, get_or, drop, min, Some, Option, pos, ◌==◌, sym, refl, ap, ◌∙◌, subst, arith}
 use Rattle.std.proofs.Math.Seq.{drop-cons}
 use Rattle.std.proofs.lemmas.Bool.{eqb-true, eqb-false}
-use Rattle.std.proofs.lemmas.List.{get_or-take, length-take-le, length-append, length-map, drop_all}
+use Rattle.std.proofs.lemmas.List.{length-append, length-map, drop_all}
 use Rattle.cells.specs.Meaning.{Cells}
 use Rattle.cells.specs.declared.values.Value.{Value}
 use Rattle.cells.specs.declared.values.Value.TheVariants.{Int}
@@ -122,14 +122,13 @@ module _ {v : Value} {fields : List Value} {mask total room : ℕ} {slots : List
   pub first_dropped : Fitting (v ∷ fields) mask total room slots after n m m₀ → (mask % 2 == 1) ≡ false → Drops v fields mask total room slots after n m m₀
   first_dropped F q = drops F.env F.count F.parts F.trees F.total_is F.bound_to F.sum F.mask_is F.fits F.full F.long F.data_held (eqb-false (mask % 2) 1 q)
 
-pub row_front : (fields : List Value) (used i : ℕ) → i < used → used ≤ 6 → length fields ≡ 6 → drop i (take used fields) ≡ get_or fields i (Int (pos 0)) ∷ drop (i + 1) (take used fields)
-row_front fields used i l few six =
+pub row_front : (row : List Value) (i : ℕ) → i < length row → drop i row ≡ get_or row i (Int (pos 0)) ∷ drop (i + 1) row
+row_front row i l =
     let one : suc i ≡ i + 1 = omega arith in
-    drop-cons (take used fields) i (Int (pos 0)) (omega (arith, length-take-le used fields (omega arith)))
-    ∙ (ap (λ v. v ∷ drop (suc i) (take used fields)) (get_or-take used fields i (Int (pos 0)) l) ∙ ap (λ k. get_or fields i (Int (pos 0)) ∷ drop k (take used fields)) one)
+    drop-cons row i (Int (pos 0)) l ∙ ap (λ k. get_or row i (Int (pos 0)) ∷ drop k row) one
 
-pub row_all : (fields : List Value) (used i : ℕ) → used ≤ i → used ≤ 6 → length fields ≡ 6 → drop i (take used fields) ≡ []
-row_all fields used i l few six = drop_all i (take used fields) (omega (arith, length-take-le used fields (omega arith)))
+pub row_all : (row : List Value) (i : ℕ) → length row ≤ i → drop i row ≡ []
+row_all row i l = drop_all i row l
 
 -- one turn: the answer is a count, and the others are left
 pub record Turned (fields : List Value) (mask total room : ℕ) (slots : List Slot) (after : Environment) (n : ℕ) (m m₀ : Cells) (answer : Option ℕ) : Type 0 where

@@ -61,12 +61,10 @@ pub fn bind_fields<S: CellStore>(
         → Out (S.CellStore.cells store.old) (row contents ++ values_in (tops slots.old)) (join vs (trees_in env)) m₀
         → BindsFields after n result (tops slots.new) (S.CellStore.cells store.new) m₀ }
 {
-    let fields = contents.fields;
     let mut rest = mask;
     let mut total = 0;
-    for i in 0..contents.used as usize {
-        let field = fields[i];
-        let count = bind_field(slots, store, field, rest % 2 == 1)?;
+    for field in &contents.fields[..contents.used as usize] {
+        let count = bind_field(slots, store, *field, rest % 2 == 1)?;
         total = u64::saturating_add(total, count as u64);
         rest = rest / 2;
     }
