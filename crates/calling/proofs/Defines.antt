@@ -31,7 +31,7 @@ module _ {P : Program} {Z : Sizes} {m₀ m : Cells} {k : ℕ} {K : List Frame} {
     pub waits : List Frame
     pub entries : Environment
     pub is : o ≡ goes [] (st waits entries (enter d.body) a)
-    pub rests : Rests P Z m₀ waits entries a [] none (changed r fs r.slots r.control r.place r.taken r.given) m
+    pub rests : Rests P Z m₀ waits entries a [] none (changed r fs r.slots r.control r.taken r.given) m
     pub stands : StandsAt P r.script.now.code (names entries) d.body f.body
 
   module _ (p i number : ℕ) (d : Define) (f : FunctionCode) (fs : Stack Waiting) (here : PlacedAt P r.script.now.code i p) (is : slice_get P.defines number ≡ Some d)

@@ -103,7 +103,7 @@ module _ {P : Program} {Z : Sizes} {m₀ m : Cells} {K : List Frame} {env : Envi
   built_rests : (A : Arguments) (fs : Stack Waiting) (ss : Stack Slot) (i count : ℕ) (row : List Value) (rec : CellRecord) (m' : Cells) → room_of fs ≡ room_of r.frames → tops fs ≡ drop 1 (tops r.frames)
       → room_of ss ≡ room_of r.slots → tops ss ≡ drop k (tops r.slots) → row ≡ reverse (v ∷ take k (values_in (tops r.slots))) → length row ≡ k + 1 → Made c row rec → TakenAt m rec i m'
       → count ≡ min (r.taken + 1) 18446744073709551615
-      → Rests P Z m₀ K A.left (takes_cells 1 a) (Cell i ∷ []) (more (built c A.fields) none) (changed r fs ss r.control r.place count r.given) m'
+      → Rests P Z m₀ K A.left (takes_cells 1 a) (Cell i ∷ []) (more (built c A.fields) none) (changed r fs ss r.control count r.given) m'
   built_rests A fs ss i count row rec m' froom ftops sroom stops is long made grab counted =
       let vals = values_in (tops r.slots) in
       let L = A.left ++ kept K in
@@ -139,7 +139,7 @@ module _ {P : Program} {Z : Sizes} {m₀ m : Cells} {K : List Frame} {env : Envi
       → count ≡ min (r.taken + 1) 18446744073709551615
       → (apply P Z p (builds c) (k + 1) K (argument t ∷ env) a ≡ stuck)
       ⊎ ((fields : Trees) × (left : Environment) × (apply P Z p (builds c) (k + 1) K (argument t ∷ env) a ≡ goes [] (st K left (finished (built c fields)) (takes_cells 1 a)))
-      × Rests P Z m₀ K left (takes_cells 1 a) (Cell i ∷ []) (more (built c fields) none) (changed r fs ss r.control r.place count r.given) m')
+      × Rests P Z m₀ K left (takes_cells 1 a) (Cell i ∷ []) (more (built c fields) none) (changed r fs ss r.control count r.given) m')
   build_done fs ss i count row rec m' froom ftops sroom stops is long made grab counted =
       ⊎_elim (λ e. inl (shortly e))
       (λ A. inr (A.fields, A.left, taken_rule A ∙ build_fits P Z K (argument t ∷ env) a c A.fields A.left (omega (arith, cell_free R grab)), built_rests A fs ss i count row rec m' froom ftops sroom stops is long made grab counted))

@@ -83,7 +83,7 @@ module _ {P : Program} {Z : Sizes} {m₀ m : Cells} {K : List Frame} {env : Envi
   }
 
   -- the last argument is pushed upon the others
-  pub last_ripe : (ss : Stack Slot) → room_of ss ≡ room_of r.slots → tops ss ≡ Some v ∷ tops r.slots → Ripe P Z m₀ (k + 1) K (argument t ∷ env) a (changed r r.frames ss r.control r.place r.taken r.given) m
+  pub last_ripe : (ss : Stack Slot) → room_of ss ≡ room_of r.slots → tops ss ≡ Some v ∷ tops r.slots → Ripe P Z m₀ (k + 1) K (argument t ∷ env) a (changed r r.frames ss r.control r.taken r.given) m
   last_ripe ss room put =
       let more_names : drop k (names env) ≡ drop (k + 1) (names (argument t ∷ env)) = let one : suc k ≡ k + 1 = omega arith in ap (λ n. drop n (names (argument t ∷ env))) one in
       record {

@@ -24,6 +24,6 @@ pub record Ripe (P : Program) (Z : Sizes) (m₀ : Cells) (k : ℕ) (K : List Fra
   pub full : map is_full (tops r.slots) ≡ map holds (env ++ kept K)
   pub data_held : Out m (values_in (tops r.slots)) (trees_in (env ++ kept K)) m₀
   pub cells : count_live m₀ + Z.cells ≡ length m₀
-  pub input : drop r.place r.input.now ≡ a.input
+  pub input : r.input.now ≡ a.input
   pub taken : r.taken ≡ capped a.taken
   pub given : r.given ≡ capped a.given

@@ -40,11 +40,11 @@ fn take_byte(machine: &mut Machine<'_, '_, '_, '_, '_>, count: usize) -> Result<
         → Under P Z m₀ count K env a machine.old m
         → Moved P Z m₀ s (finishes P Z (int (first_byte a.input)) K env (leaves (later_bytes a.input) a)) result machine.new m }
 {
-    let Some(byte) = machine.input.get(machine.place).copied() else {
+    let Some((byte, rest)) = machine.input.split_first() else {
         return give(machine, count, Value::Int(-1));
     };
-    machine.place += 1;
-    give(machine, count, Value::Int(byte as i32))
+    machine.input = rest;
+    give(machine, count, Value::Int(*byte as i32))
 }
 
 // It prints, and its value is unit.

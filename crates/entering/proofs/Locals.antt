@@ -31,7 +31,7 @@ module _ {P : Program} {Z : Sizes} {m₀ m : Cells} {K : List Frame} {env : Envi
     pub tree : Tree
     pub after : Environment
     pub is : look w env ≡ got tree after
-    pub rests : Rests P Z m₀ K after a (v ∷ []) (more tree none) (changed r r.frames ss r.control r.place r.taken r.given) m
+    pub rests : Rests P Z m₀ K after a (v ∷ []) (more tree none) (changed r r.frames ss r.control r.taken r.given) m
 
   pub read : (w : Name) (d : ℕ) (v : Value) (ss : Stack Slot) → distance w (names env) ≡ Some d → full_value (slice_get (tops r.slots) d) ≡ Some v
       → room_of ss ≡ room_of r.slots → tops ss ≡ set (tops r.slots) d (slot_left v) → Read w v ss
@@ -54,7 +54,7 @@ module _ {P : Program} {Z : Sizes} {m₀ m : Cells} {K : List Frame} {env : Envi
     pub after : Environment
     pub is : look w env ≡ got tree after
     pub fits : size tree + (saved_size K + environment_size env) ≤ Z.cells
-    pub rests : Rests P Z m₀ K env (takes (size tree) a) (copy ∷ []) (more tree none) (changed r r.frames r.slots r.control r.place taken r.given) m'
+    pub rests : Rests P Z m₀ K env (takes (size tree) a) (copy ∷ []) (more tree none) (changed r r.frames r.slots r.control taken r.given) m'
 
   pub dupped : (w : Name) (d : ℕ) (v copy : Value) (m' : Cells) (taken : ℕ) → distance w (names env) ≡ Some d → full_value (slice_get (tops r.slots) d) ≡ Some v
       → Copies m v (Ok copy) m' → taken ≡ min (r.taken + (count_live m' - count_live m)) 18446744073709551615 → Dupped w copy taken m'
@@ -70,7 +70,7 @@ module _ {P : Program} {Z : Sizes} {m₀ m : Cells} {K : List Frame} {env : Envi
         after = set env d (left f.name f.tree);
         is = f.is;
         fits = omega (arith, c.0, live_cells R);
-        rests = renewed R r.frames r.slots r.place taken r.given refl refl R.frames R.full o R.input
+        rests = renewed R r.frames r.slots taken r.given refl refl R.frames R.full o R.input
             (count ∙ ap (λ n. min (r.taken + n) 18446744073709551615) grown ∙ ap (λ n. min (n + size f.tree) 18446744073709551615) R.taken ∙ capped_add a.taken (size f.tree)) R.given;
       }
 
@@ -94,6 +94,6 @@ module _ {P : Program} {Z : Sizes} {m₀ m : Cells} {K : List Frame} {env : Envi
           after = set env d (left f.name f.tree);
           is = f.is;
           lacks = omega (arith, c.1, live_cells R);
-          rests = renewed R r.frames r.slots r.place r.taken r.given refl refl R.frames R.full (k.back m' c.2) R.input R.taken R.given;
+          rests = renewed R r.frames r.slots r.taken r.given refl refl R.frames R.full (k.back m' c.2) R.input R.taken R.given;
         },
       )

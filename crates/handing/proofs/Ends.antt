@@ -73,7 +73,7 @@ module _ {P : Program} {Z : Sizes} {m₀ m : Cells} {f : Frame} {K : List Frame}
   pub left_rests : {answer : Option ℕ} {m' : Cells} (n : ℕ) (left : Environment) (number : ℕ) (fs : Stack Waiting) (ss : Stack Slot) (given : ℕ) → drop n (env ++ kept (f ∷ K)) ≡ left ++ kept K
       → sizes (trees_in (take n (env ++ kept (f ∷ K)))) ≡ number → Leaves n (v ∷ []) (more t none) (env ++ kept (f ∷ K)) (tops r.slots) answer (tops ss) m' m₀ → room_of ss ≡ room_of r.slots
       → room_of fs ≡ room_of r.frames → Waits P r.script.now.code (names left) K (tops fs) → given ≡ min (r.given + capped number) 18446744073709551615
-      → Rests P Z m₀ K left (gives number a) (v ∷ []) (more t none) (changed r fs ss r.control r.place r.taken given) m'
+      → Rests P Z m₀ K left (gives number a) (v ∷ []) (more t none) (changed r fs ss r.control r.taken given) m'
   left_rests {m' = m'} n left number fs ss given below size L sroom froom w g = record {
     ready = R.ready;
     frames_room = froom ∙ R.frames_room;

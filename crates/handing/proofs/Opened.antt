@@ -75,7 +75,7 @@ module _ {P : Program} {Z : Sizes} {m₀ m : Cells} {p : ℕ} {bs : Branches} {K
   pub bound_rests : {after : Environment} {n i : ℕ} {others : List Waiting} {answer : _} {m' : Cells} (xs : List PatternPart) (fields : Trees) (fs : Stack Waiting) (ss : Stack Slot) (given : ℕ)
       → bind_parts xs fields env ≡ binds after n → BindsFields (after ++ kept K) n answer (tops ss) m' m₀ → room_of ss ≡ room_of r.slots → room_of fs ≡ room_of r.frames
       → tops fs ≡ Leaving i (names_inside xs) ∷ others → Below P r.script.now.code (names env) p bs K i others → given ≡ min (min (r.given + 1) 18446744073709551615 + capped n) 18446744073709551615
-      → Rests P Z m₀ (scope_end p (names_inside xs) ∷ K) after (gives (1 + n) a) [] none (changed r fs ss r.control r.place r.taken given) m'
+      → Rests P Z m₀ (scope_end p (names_inside xs) ∷ K) after (gives (1 + n) a) [] none (changed r fs ss r.control r.taken given) m'
   bound_rests {after} {n} {i} {others} xs fields fs ss given b B sroom froom ftops w g =
       let cs = r.script.now.code in
       let below : drop (names_inside xs) (names after) ≡ names env = ap (drop (names_inside xs)) (bound_names xs fields env b) ∙ scope_below xs (names env) in

@@ -31,8 +31,8 @@ use Rattle.stack.specs.Items.{tops, room_of}
 use Rattle.stack.specs.declared.Stack.{Stack}
 
 -- the machine with other stacks, another control, and other counts
-abbrev pub changed : Machine → Stack Waiting → Stack Slot → Ahead → ℕ → ℕ → ℕ → Machine
-changed r fs ss c place taken given = record { script = r.script; text = r.text; input = r.input; place = place; frames = fs; slots = ss; control = c; taken = taken; given = given }
+abbrev pub changed : Machine → Stack Waiting → Stack Slot → Ahead → ℕ → ℕ → Machine
+changed r fs ss c taken given = record { script = r.script; text = r.text; input = r.input; frames = fs; slots = ss; control = c; taken = taken; given = given }
 
 -- as many wait as there are frames
 pub waits_length : {P : Program} {cs : List Code} {G : Scope} {K : List Frame} {fs : List Waiting} → Waits P cs G K fs → length fs ≡ length K
@@ -55,7 +55,7 @@ kept_count (f ∷ K) = omega (arith, length-append (saved f) (kept K), kept_coun
 
 module _ {P : Program} {Z : Sizes} {m₀ m : Cells} {K : List Frame} {env : Environment} {a : Account} {vs : List Value} {ts : Trees} {r : Machine} (R : Rests P Z m₀ K env a vs ts r m) where
   -- what comes next is not among the rest
-  pub then : (c : Ahead) → Rests P Z m₀ K env a vs ts (changed r r.frames r.slots c r.place r.taken r.given) m
+  pub then : (c : Ahead) → Rests P Z m₀ K env a vs ts (changed r r.frames r.slots c r.taken r.given) m
   then c = record {
     ready = R.ready;
     frames_room = R.frames_room;
@@ -70,13 +70,13 @@ module _ {P : Program} {Z : Sizes} {m₀ m : Cells} {K : List Frame} {env : Envi
   }
 
   -- all that a step may change
-  pub renewed : {K' : List Frame} {env' : Environment} {a' : Account} {vs' : List Value} {ts' : Trees} {m' : Cells} (fs : Stack Waiting) (ss : Stack Slot) (place taken given : ℕ)
+  pub renewed : {K' : List Frame} {env' : Environment} {a' : Account} {vs' : List Value} {ts' : Trees} {m' : Cells} (fs : Stack Waiting) (ss : Stack Slot) (taken given : ℕ)
       → room_of fs ≡ room_of r.frames → room_of ss ≡ room_of r.slots
       → Waits P r.script.now.code (names env') K' (tops fs) → map is_full (tops ss) ≡ map holds (env' ++ kept K')
       → Out m' (vs' ++ values_in (tops ss)) (join ts' (trees_in (env' ++ kept K'))) m₀
-      → drop place r.input.now ≡ a'.input → taken ≡ capped a'.taken → given ≡ capped a'.given
-      → Rests P Z m₀ K' env' a' vs' ts' (changed r fs ss r.control place taken given) m'
-  renewed fs ss place taken given froom sroom w full o i t g = record {
+      → r.input.now ≡ a'.input → taken ≡ capped a'.taken → given ≡ capped a'.given
+      → Rests P Z m₀ K' env' a' vs' ts' (changed r fs ss r.control taken given) m'
+  renewed fs ss taken given froom sroom w full o i t g = record {
     ready = R.ready;
     frames_room = froom ∙ R.frames_room;
     slots_room = sroom ∙ R.slots_room;
@@ -92,21 +92,21 @@ module _ {P : Program} {Z : Sizes} {m₀ m : Cells} {K : List Frame} {env : Envi
   -- other frames, over the same entries
   pub reframed : {K' : List Frame} {env' : Environment} (fs : Stack Waiting) → room_of fs ≡ room_of r.frames
       → Waits P r.script.now.code (names env') K' (tops fs) → env' ++ kept K' ≡ env ++ kept K
-      → Rests P Z m₀ K' env' a vs ts (changed r fs r.slots r.control r.place r.taken r.given) m
-  reframed fs room w same = renewed fs r.slots r.place r.taken r.given room refl w (R.full ∙ ap (map holds) (sym same))
+      → Rests P Z m₀ K' env' a vs ts (changed r fs r.slots r.control r.taken r.given) m
+  reframed fs room w same = renewed fs r.slots r.taken r.given room refl w (R.full ∙ ap (map holds) (sym same))
       (subst (λ e. Out m (vs ++ values_in (tops r.slots)) (join ts (trees_in e)) m₀) (sym same) R.data_held) R.input R.taken R.given
 
   -- other slots, for entries of the same names
   pub reslotted : {env' : Environment} {vs' : List Value} {ts' : Trees} {m' : Cells} (ss : Stack Slot) → room_of ss ≡ room_of r.slots
       → names env' ≡ names env → map is_full (tops ss) ≡ map holds (env' ++ kept K)
       → Out m' (vs' ++ values_in (tops ss)) (join ts' (trees_in (env' ++ kept K))) m₀
-      → Rests P Z m₀ K env' a vs' ts' (changed r r.frames ss r.control r.place r.taken r.given) m'
-  reslotted ss room n full o = renewed r.frames ss r.place r.taken r.given refl room (subst (λ G. Waits P r.script.now.code G K (tops r.frames)) (sym n) R.frames) full o R.input R.taken R.given
+      → Rests P Z m₀ K env' a vs' ts' (changed r r.frames ss r.control r.taken r.given) m'
+  reslotted ss room n full o = renewed r.frames ss r.taken r.given refl room (subst (λ G. Waits P r.script.now.code G K (tops r.frames)) (sym n) R.frames) full o R.input R.taken R.given
 
   -- stacks that hold the same
   pub restacked : (fs : Stack Waiting) (ss : Stack Slot) → room_of fs ≡ room_of r.frames → tops fs ≡ tops r.frames → room_of ss ≡ room_of r.slots → tops ss ≡ tops r.slots
-      → Rests P Z m₀ K env a vs ts (changed r fs ss r.control r.place r.taken r.given) m
-  restacked fs ss froom ftops sroom stops = renewed fs ss r.place r.taken r.given froom sroom (subst (Waits P r.script.now.code (names env) K) (sym ftops) R.frames) (ap (map is_full) stops ∙ R.full)
+      → Rests P Z m₀ K env a vs ts (changed r fs ss r.control r.taken r.given) m
+  restacked fs ss froom ftops sroom stops = renewed fs ss r.taken r.given froom sroom (subst (Waits P r.script.now.code (names env) K) (sym ftops) R.frames) (ap (map is_full) stops ∙ R.full)
       (subst (λ q. Out m (vs ++ values_in q) (join ts (trees_in (env ++ kept K))) m₀) (sym stops) R.data_held) R.input R.taken R.given
 
   -- a plain value comes to the front
@@ -134,7 +134,7 @@ module _ {P : Program} {Z : Sizes} {m₀ m : Cells} {K : List Frame} {env : Envi
 -- a machine whose stacks hold the same mirrors the same
 pub unmoved : {P : Program} {Z : Sizes} {m₀ m : Cells} {r : Machine} {s : State} → Mirrors P Z m₀ s r m → (fs : Stack Waiting) (ss : Stack Slot)
     → room_of fs ≡ room_of r.frames → tops fs ≡ tops r.frames → room_of ss ≡ room_of r.slots → tops ss ≡ tops r.slots
-    → Mirrors P Z m₀ s (changed r fs ss r.control r.place r.taken r.given) m
+    → Mirrors P Z m₀ s (changed r fs ss r.control r.taken r.given) m
 unmoved (mirrors R N) fs ss froom ftops sroom stops = mirrors (restacked R fs ss froom ftops sroom stops) N
 
 -- what the rules say may be written in another way
@@ -191,7 +191,7 @@ by_printing {P} {Z} {m₀} {m} {s} {old} {new} {t = t} {r = r} e h = subst (λ o
 -- what lies above is taken off
 pub uncovered : {P : Program} {Z : Sizes} {m₀ m : Cells} {n : ℕ} {K : List Frame} {env : Environment} {a : Account} {r : Machine} → Under P Z m₀ n K env a r m
     → (fs : Stack Waiting) (ss : Stack Slot) → room_of fs ≡ room_of r.frames → tops fs ≡ drop 1 (tops r.frames) → room_of ss ≡ room_of r.slots → tops ss ≡ drop n (tops r.slots)
-    → Rests P Z m₀ K env a [] none (changed r fs ss r.control r.place r.taken r.given) m
+    → Rests P Z m₀ K env a [] none (changed r fs ss r.control r.taken r.given) m
 uncovered {P} {Z} {m₀} {m} {n} {K} {env} {r = r} U fs ss froom ftops sroom stops = record {
   ready = U.ready;
   frames_room = froom ∙ U.frames_room;

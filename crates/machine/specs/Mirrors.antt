@@ -34,7 +34,7 @@ module _ (P : Program) (Z : Sizes) (m₀ : Cells) where
     pub data_held : Out m (vs ++ values_in (tops r.slots)) (join ts (trees_in (env ++ kept K))) m₀
     -- the cells free at opening
     pub cells : count_live m₀ + Z.cells ≡ length m₀
-    pub input : drop r.place r.input.now ≡ a.input
+    pub input : r.input.now ≡ a.input
     pub taken : r.taken ≡ capped a.taken
     pub given : r.given ≡ capped a.given
 
@@ -69,7 +69,7 @@ module _ (P : Program) (Z : Sizes) (m₀ : Cells) where
     pub full : map is_full (drop n (tops r.slots)) ≡ map holds (env ++ kept K)
     pub data_held : Out m (values_in (drop n (tops r.slots))) (trees_in (env ++ kept K)) m₀
     pub cells : count_live m₀ + Z.cells ≡ length m₀
-    pub input : drop r.place r.input.now ≡ a.input
+    pub input : r.input.now ≡ a.input
     pub taken : r.taken ≡ capped a.taken
     pub given : r.given ≡ capped a.given
 

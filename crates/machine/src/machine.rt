@@ -1,4 +1,4 @@
-// The state of a run: the script and its text, the input with its place, what waits, what is held, what comes next, and how many
+// The state of a run: the script and its text, the input that is left, what waits, what is held, what comes next, and how many
 // cells were taken and given back.
 use super::{Control, Frame, Slot};
 use program::Compiled;
@@ -9,7 +9,6 @@ pub struct Machine<'s, 't, 'i, 'f, 'v> {
     pub script: &'s Compiled,
     pub text: &'t [u8],
     pub input: &'i [u8],
-    pub place: usize,
     pub frames: Stack<'f, Frame>,
     pub slots: Stack<'v, Slot>,
     pub control: Control,

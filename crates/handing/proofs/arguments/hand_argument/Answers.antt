@@ -50,7 +50,7 @@ returns-then-next-past-clause-law c = λ P Z m₀ m f K env a t H speaks.
     (arguments_next (λ xs. Printed P Z m₀ (st (next_argument p (calls n) k es ∷ K) env (finished t) a) out (proceed P Z p (calls n) (k + 1) xs K inner a) c.unprinted.result c.go.new.self m out)
     A (subst (λ i. c.args.next < i) past_is c.if-next-past.true)
     (λ e xs X A. silent c.unprinted.ensures.same refl (c.go.ensures.law P Z m₀ m _ (next_argument p (calls n) (k + 1) xs ∷ K) inner a e
-    (renewed R c.replace_top.new.self c.push.new.self r.place r.taken r.given put.room pushed.room
+    (renewed R c.replace_top.new.self c.push.new.self r.taken r.given put.room pushed.room
     (subst (Waits P cs (names inner) (next_argument p (calls n) (k + 1) xs ∷ K)) (sym (put.tops ∙ ap (λ q. set q 0 (Argument c.args.at c.code_at-later.result.past c.one_more.result n)) H.stacked))
     (waits_argument here (c.one_more.ensures k h) (subst (λ j. StandsArguments P cs (None ∷ names inner) xs j (past P cs c.args.at)) (sym later_is) A) below))
     (ap (map is_full) pushed.tops ∙ ap (λ q. true ∷ q) R.full)

@@ -49,7 +49,7 @@ returns-then-next-code-clause-law g c = λ P Z m₀ f K env a t H.
     (arguments_next (λ xs. n ≡ k + (1 + argument_count xs) → Moved P Z m₀ (st (next_argument p (builds q) k es ∷ K) env (finished t) a) (proceed P Z p (builds q) (k + 1) xs K inner a) c.go.result c.go.new.self m)
     A (subst (λ i. c.args.next < i) past_is c.if-next-code.true)
     (λ e xs X A count. c.go.ensures.law P Z m₀ m _ (next_argument p (builds q) (k + 1) xs ∷ K) inner a e
-    (renewed R c.replace_top.new.self c.push.new.self r.place r.taken r.given put.room pushed.room
+    (renewed R c.replace_top.new.self c.push.new.self r.taken r.given put.room pushed.room
     (subst (Waits P cs (names inner) (next_argument p (builds q) (k + 1) xs ∷ K)) (sym (put.tops ∙ ap (λ q. set q 0 (Field c.args.at c.code_at-later.result.past)) H.stacked))
     (waits_field here o (omega (arith, count)) (subst (λ j. StandsArguments P cs (None ∷ names inner) xs j (past P cs c.args.at)) (sym later_is) A) below))
     (ap (map is_full) pushed.tops ∙ ap (λ q. true ∷ q) R.full)

@@ -40,7 +40,7 @@ returns-then-first-past-clause-law c = λ P Z m₀ m f K env a t H.
     (arguments_next (λ xs. Printed P Z m₀ (st (head_value p es ∷ K) env (finished t) a) out (proceed P Z p (calls n) 0 xs K env a) c.unprinted.result c.go.new.self m out)
     (subst (λ i. StandsArguments P cs (names env) es i (past P cs c.args.at)) (sym first_is) A) (subst (λ i. c.code_at-first.result.past < i) past_is c.if-first-past.true)
     (λ e es X A. silent c.unprinted.ensures.same refl (c.go.ensures.law P Z m₀ m _ (next_argument p (calls n) 0 es ∷ K) env a e
-    (renewed R c.replace_top.new.self r.slots r.place r.taken r.given put.room refl
+    (renewed R c.replace_top.new.self r.slots r.taken r.given put.room refl
     (subst (Waits P cs (names env) (next_argument p (calls n) 0 es ∷ K)) (sym (put.tops ∙ ap (λ q. set q 0 (Argument c.args.at c.code_at-next.result.past held.None n)) H.stacked))
     (waits_argument here refl (subst (λ j. StandsArguments P cs (None ∷ names env) es j (past P cs c.args.at)) (sym next_is) A) w)) R.full d.1 R.input R.taken R.given) X)))) H.mirrored
 

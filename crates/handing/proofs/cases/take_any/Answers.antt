@@ -33,7 +33,7 @@ returns-clause-law g c = λ P Z m₀ p bs K env a k vs H A.
     let node : c.after.result ≡ c.args.branch + 1 = c.after.ensures (omega (arith, A.within)) in
     by_rule (A.is Z p vs K env a)
     (c.go.ensures.law P Z m₀ m' _ (scope_end p 0 ∷ K) env (gives n a) A.expr
-    (renewed R c.replace_top.new.self r.slots r.place r.taken c.saturating_add-machine.result put.room refl
+    (renewed R c.replace_top.new.self r.slots r.taken c.saturating_add-machine.result put.room refl
     (subst (Waits P cs (names env) (scope_end p 0 ∷ K)) (sym (put.tops ∙ ap (λ q. set q 0 (Leaving c.args.at 0)) H.stacked)) (waits_leaving B.placed B.waits)) R.full d.1 R.input R.taken
     (c.saturating_add-machine.ensures ∙ (ap (λ n. min (r.given + n) 18446744073709551615) count ∙ (ap (λ x. min (x + n) 18446744073709551615) R.given ∙ capped_add a.given n))))
     (subst (StandsAt P cs (names env) A.expr) (sym node) A.stands))

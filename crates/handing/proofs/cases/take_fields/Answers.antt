@@ -46,7 +46,7 @@ returns-in_err-count-clause-law g c = λ P Z m₀ p bs K env a k vs H at F.
     let counted : c.names_in-names.result ≡ N = c.names_in-names.ensures F.parts F.mask_is in
     by_rule (F.is Z p vs K env a)
     (elim (bind_parts F.parts vs env) as (λ b. bind_parts F.parts vs env ≡ b → Moved P Z m₀ (st (case_test p bs ∷ K) env (finished (built k vs)) a) (enter_branch P Z p N F.expr K env a (giving (cost vs) b)) c.from_residual-in_err-count.result
-    (changed r r.frames c.bind_fields.new.slots r.control r.place r.taken r.given) m') [
+    (changed r r.frames c.bind_fields.new.slots r.control r.taken r.given) m') [
       | binds after n ↦ λ e.
           let o = (unbuild m m₀ c.args.cell c.args.contents (values_in (tops r.slots)) k vs (trees_in (env ++ kept K)) at R.data_held).1 in
           let B = c.bind_fields.ensures.law m₀ F.parts vs (env ++ kept K) (after ++ kept K) n F.mask_is (bound_over F.parts vs env (kept K) e)

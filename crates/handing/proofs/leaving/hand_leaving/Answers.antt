@@ -16,7 +16,7 @@ unfolding hand hand_end
 returns-in_err-number-clause-law g c = λ P Z m₀ f K env a t H.
     let r = c.args.machine.now in
     let m = g.S.CellStore.cells c.args.store.now in
-    on_leaving (HandedBy P Z m₀ K env a t r m _ (changed r r.frames c.leave.new.slots r.control r.place r.taken r.given) (g.S.CellStore.cells c.leave.new.store)) (waiting_for H)
+    on_leaving (HandedBy P Z m₀ K env a t r m _ (changed r r.frames c.leave.new.slots r.control r.taken r.given) (g.S.CellStore.cells c.leave.new.store)) (waiting_for H)
     (λ p here w M. elim (gone c.args.count env) [
       | inl e ↦ by_rule (ap (hand_end P Z K a t) e) moved_any
       | inr q ↦
@@ -58,7 +58,7 @@ unfolding hand
 returns-in_err-number-clause-body g c = λ P Z m₀ f K env a t H.
     let r = c.args.machine.now in
     let m = g.S.CellStore.cells c.args.store.now in
-    on_body (HandedBy P Z m₀ K env a t r m _ (changed r r.frames c.leave.new.slots r.control r.place r.taken r.given) (g.S.CellStore.cells c.leave.new.store)) (waiting_for H)
+    on_body (HandedBy P Z m₀ K env a t r m _ (changed r r.frames c.leave.new.slots r.control r.taken r.given) (g.S.CellStore.cells c.leave.new.store)) (waiting_for H)
     (λ p outer here n w M.
     let L = c.leave.ensures.law m₀ (c.args.value ∷ []) (more t none) (env ++ kept (body_value p outer ∷ K)) (omega (arith, n, names_length env, length-append env (kept (body_value p outer ∷ K)))) refl (in_hand H.value M).data_held in
     let is = L.given in

@@ -30,7 +30,7 @@ returns-clause-law g c = λ P Z m₀ f K env a t H.
     let m = g.S.CellStore.cells c.args.store.now in
     let m' = g.S.CellStore.cells c.drop_value.new.store in
     let cut = c.cut.ensures in
-    on_main (HandedBy P Z m₀ K env a t r m (Ok tt) (changed r c.cut.new.self r.slots Over r.place r.taken c.saturating_add-machine.result) m') (waiting_for H)
+    on_main (HandedBy P Z m₀ K env a t r m (Ok tt) (changed r c.cut.new.self r.slots Over r.taken c.saturating_add-machine.result) m') (waiting_for H)
     (λ p d at place bare w M.
     let R = in_hand H.value M in
     let none_left : env ≡ [] = no_names env bare in
@@ -38,7 +38,7 @@ returns-clause-law g c = λ P Z m₀ f K env a t H.
     let is = h.0 in
     let number : c.in_ok-count.count ≡ size t = cc in
     let total : size t ≡ environment_size env + size t = omega (arith, ap environment_size none_left) in
-    moved_on (mirrors (then (renewed R c.cut.new.self r.slots r.place r.taken c.saturating_add-machine.result cut.room refl
+    moved_on (mirrors (then (renewed R c.cut.new.self r.slots r.taken c.saturating_add-machine.result cut.room refl
     (subst (Waits P cs [] K) (sym (cut.tops ∙ ap (drop 1) H.stacked)) w) (R.full ∙ ap (λ e. map holds (e ++ kept K)) none_left)
     (subst (λ e. Out m' (values_in (tops r.slots)) (trees_in (e ++ kept K)) m₀) none_left h.1) R.input R.taken
     (c.saturating_add-machine.ensures ∙ (ap (λ x. min (r.given + x) 18446744073709551615) (number ∙ total) ∙ (ap (λ x. min (x + (environment_size env + size t)) 18446744073709551615) R.given ∙ capped_add a.given (environment_size env + size t))))) Over) next_over)) H.mirrored

@@ -17,7 +17,7 @@ unfolding hand
 returns-in_err-push-clause-law c = λ P Z m₀ m f K env a t H.
     let r = c.args.machine.now in
     let same = c.in_err-push.ensures in
-    on_binding (HandedBy P Z m₀ K env a t r m c.from_residual.result (changed r r.frames c.push.new.self r.control r.place r.taken r.given) m) (waiting_for H)
+    on_binding (HandedBy P Z m₀ K env a t r m c.from_residual.result (changed r r.frames c.push.new.self r.control r.taken r.given) m) (waiting_for H)
     (λ p k b x bs e here n B E w M.
     let R = in_hand H.value M in
     let g = let_goes P Z p bs e c.args.count K (full x.bytes t ∷ env) a in
@@ -43,7 +43,7 @@ returns-clause-law c = λ P Z m₀ m f K env a t H.
     let same : inner ++ kept (L.frame ∷ K) ≡ inner ++ kept K = ap (λ s. inner ++ (s ++ kept K)) L.keeps_none in
     by_rule (ap (needs StackFull (has_entries P Z 1 K env)) (L.is Z K a) ∙ entries_fit P Z K env a 1 (goes [] (st (L.frame ∷ K) inner (enter L.part) a)) (omega (arith, slots_count R, R.slots_room, pushed.fits)))
     (c.go.ensures.law P Z m₀ m _ (L.frame ∷ K) inner a L.part
-    (renewed R c.replace_top.new.self c.push.new.self r.place r.taken r.given put.room pushed.room
+    (renewed R c.replace_top.new.self c.push.new.self r.taken r.given put.room pushed.room
     (subst (Waits P cs (names inner) (L.frame ∷ K)) (sym (put.tops ∙ ap (λ q. set q 0 on.frame) H.stacked)) waits)
     (ap (map is_full) pushed.tops ∙ (ap (λ q. true ∷ q) R.full ∙ ap (map holds) (sym same)))
     (subst (λ q. Out m (values_in q) (trees_in (inner ++ kept (L.frame ∷ K))) m₀) (sym pushed.tops) (subst (λ q. Out m (c.args.value ∷ values_in (tops r.slots)) (trees_in q) m₀) (sym same) R.data_held))

@@ -39,7 +39,7 @@ returns-then-next-past-clause-law g c = λ P Z m₀ f K env a t H.
     let count : c.in_ok-count.count ≡ size t = cc in
     row_next (λ es. Moved P Z m₀ (st (begin_part p es ∷ K) env (finished t) a) (part_handed P Z p es K env a t) c.go.result c.go.new.self m') S (subst (λ n. c.args.next < n) past_is c.if-next-past.true)
     (λ e es X S. c.go.ensures.law P Z m₀ m' _ (begin_part p es ∷ K) env (gives (size t) a) e
-    (renewed R c.replace_top.new.self r.slots r.place r.taken c.saturating_add-machine.result put.room refl
+    (renewed R c.replace_top.new.self r.slots r.taken c.saturating_add-machine.result put.room refl
     (subst (Waits P cs (names env) (begin_part p es ∷ K)) (sym (put.tops ∙ ap (λ q. set q 0 (Part c.args.at c.code_at-later.result.past)) H.stacked))
     (waits_part here (subst (λ j. StandsRow P cs (names env) es j (past P cs c.args.at)) (sym later) S) w)) R.full d.1 R.input R.taken
     (c.saturating_add-machine.ensures ∙ (ap (λ n. min (r.given + n) 18446744073709551615) count ∙ (ap (λ n. min (n + size t) 18446744073709551615) R.given ∙ capped_add a.given (size t))))) X)) H.mirrored

@@ -32,7 +32,7 @@ returns-then-test-clause-law c = λ P Z m₀ m f K env a t H.
     let R = in_hand H.value M in
     let d = tree_bool is R.data_held in
     by_rule (ap (test_handed P Z p x y K env a) d.0)
-    (c.go.ensures.law P Z m₀ m _ (if_arm p ∷ K) env a x (renewed R c.replace_top.new.self r.slots r.place r.taken r.given put.room refl
+    (c.go.ensures.law P Z m₀ m _ (if_arm p ∷ K) env a x (renewed R c.replace_top.new.self r.slots r.taken r.given put.room refl
     (subst (Waits P r.script.now.code (names env) (if_arm p ∷ K)) (sym (put.tops ∙ ap (λ q. set q 0 (Arm c.args.at)) H.stacked)) (waits_arm here w)) R.full d.1 R.input R.taken R.given)
     (subst (StandsAt P r.script.now.code (names env) x) (sym arm) X))) H.mirrored
 
@@ -49,6 +49,6 @@ returns-clause-law c = λ P Z m₀ m f K env a t H.
     let R = in_hand H.value M in
     let d = tree_bool is R.data_held in
     by_rule (ap (test_handed P Z p x y K env a) d.0)
-    (c.go-2.ensures.law P Z m₀ m _ (if_arm p ∷ K) env a y (renewed R c.replace_top.new.self r.slots r.place r.taken r.given put.room refl
+    (c.go-2.ensures.law P Z m₀ m _ (if_arm p ∷ K) env a y (renewed R c.replace_top.new.self r.slots r.taken r.given put.room refl
     (subst (Waits P r.script.now.code (names env) (if_arm p ∷ K)) (sym (put.tops ∙ ap (λ q. set q 0 (Arm c.args.at)) H.stacked)) (waits_arm here w)) R.full d.1 R.input R.taken R.given)
     (subst (StandsAt P r.script.now.code (names env) y) (sym other) Y))) H.mirrored
