@@ -3,9 +3,9 @@ use Rattle.std.proofs.Common.{◌≡◌, ℕ, ◌⊎◌, inl, inr, List, [], ◌
 use Rattle.std.specs.List.{slice_get}
 use Rattle.calling.specs.Ripe.{Ripe}
 use Rattle.cells.specs.Meaning.{Cells}
-use Rattle.cell_data.proofs.Outs.{tally}
-use Rattle.cell_data.specs.Taking.{Out}
-use Rattle.cell_data.specs.Trees.{Trees, none}
+use Rattle.data.proofs.Outs.{tally}
+use Rattle.data.specs.Taking.{Out}
+use Rattle.data.specs.Trees.{Trees, none}
 use Rattle.grammar.specs.Trees.{bound}
 use Rattle.machine.proofs.Arguments.{onto, Takes, takes, takes_short, taken, names_onto, Binds, binds_to, binds_unfit, bound_from_law, length_bound, called_trees, called_holds}
 use Rattle.machine.proofs.Resting.{changed}

@@ -12,9 +12,9 @@ use Rattle.basis.specs.declared.plain.Plain.TheVariants as plain
 use Rattle.calling.specs.Applying.{plain_value, plain_in, on_plains, last_applied, SaysApplied}
 use Rattle.cells.specs.Meaning.{Cells}
 use Rattle.cells.specs.declared.values.Value.{Value}
-use Rattle.cell_data.specs.Standing.{plain_int, plain_bool, plain_symbol, plain_unit, plain_function}
-use Rattle.cell_data.specs.Taking.{Out, out_plain, out_cell}
-use Rattle.cell_data.specs.Trees.{Tree, Trees, more}
+use Rattle.data.specs.Standing.{plain_int, plain_bool, plain_symbol, plain_unit, plain_function}
+use Rattle.data.specs.Taking.{Out, out_plain, out_cell}
+use Rattle.data.specs.Trees.{Tree, Trees, more}
 use Rattle.machine.specs.Mirrors.{Speaks}
 use Rattle.machine.specs.Ready.{Quoted}
 use Rattle.machine.specs.declared.frame.Held.{Held}

@@ -10,9 +10,9 @@ use Rattle.cells.specs.declared.records.CellRecord.{CellRecord}
 use Rattle.cells.specs.declared.refusals.StoreRefusal.{StoreRefusal}
 use Rattle.cells.specs.declared.values.Value.{Value}
 use Rattle.cells.specs.declared.values.Value.TheVariants.{Cell, Unit as Nothing}
-use Rattle.cell_data.proofs.Outs.{join, tally}
-use Rattle.cell_data.specs.Taking.{Out}
-use Rattle.cell_data.specs.Trees.{Tree, Trees, none, more, built}
+use Rattle.data.proofs.Outs.{join, tally}
+use Rattle.data.specs.Taking.{Out}
+use Rattle.data.specs.Trees.{Tree, Trees, none, more, built}
 use Rattle.grammar.specs.Trees.{Exprs}
 use Rattle.machine.proofs.Arguments.{onto, onto_append, Takes, takes, takes_short, taken, names_onto, turned, arguments_hold, holds_onto}
 use Rattle.machine.proofs.Building.{built_out, cell_free, cells_full}

@@ -9,10 +9,10 @@ use Rattle.basis.specs.declared.plain.Plain.{Plain as BasisPlain}
 use Rattle.calling.specs.Applying.{plain_value, on_plains, last_applied, held_count}
 use Rattle.cells.specs.Meaning.{Cells}
 use Rattle.cells.specs.declared.values.Value.{Value}
-use Rattle.cell_data.proofs.Outs.{tally}
-use Rattle.cell_data.specs.Standing.{Plain, plain_int, plain_bool, plain_symbol, plain_unit, plain_function}
-use Rattle.cell_data.specs.Taking.{Out, out_plain, out_cell}
-use Rattle.cell_data.specs.Trees.{Tree, Trees, none, more}
+use Rattle.data.proofs.Outs.{tally}
+use Rattle.data.specs.Standing.{Plain, plain_int, plain_bool, plain_symbol, plain_unit, plain_function}
+use Rattle.data.specs.Taking.{Out, out_plain, out_cell}
+use Rattle.data.specs.Trees.{Tree, Trees, none, more}
 use Rattle.machine.proofs.Arguments.{Takes, takes, takes_short, taken}
 use Rattle.machine.specs.Holding.{values_in, is_full, trees_in, holds, names, full_value}
 use Rattle.machine.specs.Waiting.{held_of}

@@ -8,10 +8,10 @@ use Rattle.calling.specs.Ripe.{Ripe}
 use Rattle.cells.specs.Meaning.{Cells}
 use Rattle.cells.specs.declared.values.Value.{Value}
 use Rattle.cells.specs.declared.values.Value.TheVariants.{Function}
-use Rattle.cell_data.proofs.Moves.{plain_out}
-use Rattle.cell_data.specs.Standing.{plain_function}
-use Rattle.cell_data.specs.Taking.{Out}
-use Rattle.cell_data.specs.Trees.{Tree, none, more}
+use Rattle.data.proofs.Moves.{plain_out}
+use Rattle.data.specs.Standing.{plain_function}
+use Rattle.data.specs.Taking.{Out}
+use Rattle.data.specs.Trees.{Tree, none, more}
 use Rattle.grammar.specs.Trees.{Exprs}
 use Rattle.machine.proofs.Resting.{changed}
 use Rattle.machine.specs.Holding.{values_in, is_full, trees_in, names, kept}

@@ -1,7 +1,7 @@
 -- An application whose arguments are all held.
 use Rattle.std.specs.Prelude.{◌≡◌, ℕ, ◌+◌, ◌++◌, List, ◌∷◌, map, length, drop}
 use Rattle.cells.specs.Meaning.{Cells, count_live}
-use Rattle.cell_data.specs.Taking.{Out}
+use Rattle.data.specs.Taking.{Out}
 use Rattle.machine.specs.Holding.{values_in, is_full, trees_in, holds, names, kept, capped}
 use Rattle.machine.specs.Ready.{Ready}
 use Rattle.machine.specs.Waiting.{Waits}

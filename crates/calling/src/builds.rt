@@ -2,7 +2,7 @@
 ghost use Rattle.std.specs.Prelude.{◌≡◌, ℕ, ◌+◌, ◌<◌, ◌≤◌, List, [], ◌∷◌, drop, MatchOption};
 ghost use Rattle.calling.specs.Gathering.{Gathers, Misses};
 ghost use Rattle.cells.specs.Meaning.{Cells};
-ghost use Rattle.cell_data.specs.Trees.{Tree, none, more};
+ghost use Rattle.data.specs.Trees.{Tree, none, more};
 ghost use Rattle.grammar.specs.Trees.{Exprs};
 ghost use Rattle.machine.specs.Holding.{names};
 ghost use Rattle.machine.specs.Mirrors.{Rests, Mirrors, Moved, Steady};

@@ -4,7 +4,7 @@ ghost use Rattle.std.specs.List.{slice_get};
 ghost use Rattle.calling.specs.Applying.{held_count};
 ghost use Rattle.calling.specs.Ripe.{Ripe};
 ghost use Rattle.cells.specs.Meaning.{Cells};
-ghost use Rattle.cell_data.specs.Trees.{Tree, none, more};
+ghost use Rattle.data.specs.Trees.{Tree, none, more};
 ghost use Rattle.grammar.specs.Trees.{Exprs};
 ghost use Rattle.machine.specs.Holding.{names};
 ghost use Rattle.machine.specs.Mirrors.{Rests, Mirrors, Moved, Printed, Steady, Spares, Speaks};

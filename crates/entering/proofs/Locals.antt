@@ -3,13 +3,13 @@ use Rattle.std.proofs.Common.{◌≡◌, ℕ, ◌+◌, ◌-◌, ◌<◌, ◌≤�
 use Rattle.std.specs.List.{slice_get}
 use Rattle.cells.specs.Meaning.{Cells, count_live}
 use Rattle.cells.specs.declared.values.Value.{Value}
-use Rattle.cell_data.proofs.Moves.{copy_held}
-use Rattle.cell_data.proofs.Outs.{joined, out_count}
-use Rattle.cell_data.specs.Taking.{Out}
-use Rattle.cell_data.specs.Trees.{Tree, none, more, size}
-use Rattle.cell_data.specs.Walks.{Copies}
-use Rattle.cell_data.specs.declared.refusals.WalkRefusal.{WalkRefusal}
-use Rattle.cell_data.specs.declared.refusals.WalkRefusal.TheVariants.{NoFreeCell}
+use Rattle.data.proofs.Moves.{copy_held}
+use Rattle.data.proofs.Outs.{joined, out_count}
+use Rattle.data.specs.Taking.{Out}
+use Rattle.data.specs.Trees.{Tree, none, more, size}
+use Rattle.cell_data.specs.Copying.{CleanCopies}
+use Rattle.data.specs.declared.refusals.WalkRefusal.{WalkRefusal}
+use Rattle.data.specs.declared.refusals.WalkRefusal.TheVariants.{NoFreeCell}
 use Rattle.machine.proofs.Cells.{live_cells, capped_add}
 use Rattle.machine.proofs.Names.{found, left_names, front_get, front_set}
 use Rattle.machine.proofs.Resting.{changed, renewed, reslotted}
@@ -57,11 +57,11 @@ module _ {P : Program} {Z : Sizes} {m₀ m : Cells} {K : List Frame} {env : Envi
     pub rests : Rests P Z m₀ K env (takes (size tree) a) (copy ∷ []) (more tree none) (changed r r.frames r.slots r.control taken r.given) m'
 
   pub dupped : (w : Name) (d : ℕ) (v copy : Value) (m' : Cells) (taken : ℕ) → distance w (names env) ≡ Some d → full_value (slice_get (tops r.slots) d) ≡ Some v
-      → Copies m v (Ok copy) m' → taken ≡ min (r.taken + (count_live m' - count_live m)) 18446744073709551615 → Dupped w copy taken m'
+      → CleanCopies m v (Ok copy) m' → taken ≡ min (r.taken + (count_live m' - count_live m)) 18446744073709551615 → Dupped w copy taken m'
   dupped w d v copy m' taken e h does count =
       let f = found w (tops r.slots) env (kept K) d R.full e h in
       let k = focus d (tops r.slots) (env ++ kept K) f.slot (front_get env (kept K) d (full f.name f.tree) f.entry) R.data_held in
-      let c = copy_held (Ok copy) does k.front in
+      let c = copy_held (Ok copy) does.copy k.front in
       let b = alone c.1 in
       let o : Out m' (copy ∷ values_in (tops r.slots)) (more f.tree (trees_in (env ++ kept K))) m₀ = joined b.first (k.back b.mid b.second) in
       let grown : count_live m' - count_live m ≡ size f.tree = omega (arith, out_count o, out_count R.data_held) in
@@ -83,11 +83,11 @@ module _ {P : Program} {Z : Sizes} {m₀ m : Cells} {K : List Frame} {env : Envi
     pub rests : Rests P Z m₀ K env a [] none r m'
 
   pub undupped : (w : Name) (d : ℕ) (v : Value) (e : WalkRefusal) (m' : Cells) → distance w (names env) ≡ Some d → full_value (slice_get (tops r.slots) d) ≡ Some v
-      → Copies m v (Err e) m' → (e ≡ NoFreeCell) × Undupped w m'
+      → CleanCopies m v (Err e) m' → (e ≡ NoFreeCell) × Undupped w m'
   undupped w d v refusal m' e h does =
       let f = found w (tops r.slots) env (kept K) d R.full e h in
       let k = focus d (tops r.slots) (env ++ kept K) f.slot (front_get env (kept K) d (full f.name f.tree) f.entry) R.data_held in
-      let c = copy_held (Err refusal) does k.front in (
+      let c = copy_held (Err refusal) does.copy k.front in (
         c.0,
         record {
           tree = f.tree;

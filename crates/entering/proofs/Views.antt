@@ -5,7 +5,7 @@ use Rattle.std.specs.List.{slice_get}
 use Rattle.grammar.specs.Trees as tree
 use Rattle.grammar.specs.Trees.{Ident, Expr, Exprs, no_exprs, and_expr, Bindings, Branches}
 use Rattle.cells.specs.Meaning.{Cells}
-use Rattle.cell_data.specs.Trees.{none, function}
+use Rattle.data.specs.Trees.{none, function}
 use Rattle.layout.specs.Literals.{place_of_first}
 use Rattle.machine.proofs.Names.{looked, unseen, seen_there}
 use Rattle.machine.specs.Holding.{names}

@@ -1,7 +1,7 @@
 // Entering an application of a constructor.
 ghost use Rattle.std.specs.Prelude.{◌≡◌, ℕ, ◌+◌, List};
 ghost use Rattle.cells.specs.Meaning.{Cells};
-ghost use Rattle.cell_data.specs.Trees.{none};
+ghost use Rattle.data.specs.Trees.{none};
 ghost use Rattle.grammar.specs.Trees.{Expr, Exprs};
 ghost use Rattle.machine.specs.Holding.{names};
 ghost use Rattle.machine.specs.Mirrors.{Mirrors, Moved, Steady};

@@ -1,6 +1,6 @@
 -- Runs and the evaluation agree.
 use Rattle.std.proofs.Common.{◌≡◌, ℕ, zero, suc, ◌+◌, ◌-◌, ◌<◌, ◌≤◌, List, [], ◌∷◌, length, Some, None, Option, sym, refl, ap, ◌∙◌, subst, arith, length-append}
-use Rattle.cell_data.specs.Trees.{Tree, size}
+use Rattle.data.specs.Trees.{Tree, size}
 use Rattle.program.specs.Programs.{Program, Define}
 use Rattle.rules.specs.declared.answers.End.{End}
 use Rattle.rules.specs.declared.answers.End.TheVariants.{Ended}

@@ -1,7 +1,7 @@
 -- The entries of a run are an environment with the arguments that are held in between. Names are found, bound and left alike in both.
 use Rattle.std.proofs.Common.{◌≡◌, ℕ, zero, suc, ◌+◌, ◌≤◌, Bool, true, false, cond, List, [], ◌∷◌, length, Some, None, Option, sym, refl, ap, ◌∙◌, arith}
 use Rattle.std.specs.Str.{bytes_eq}
-use Rattle.cell_data.specs.Trees.{Tree, Trees, none, more, size}
+use Rattle.data.specs.Trees.{Tree, Trees, none, more, size}
 use Rattle.grammar.specs.Trees.{PatternPart, bound, skipped}
 use Rattle.program.specs.Programs.{Name}
 use Rattle.program.specs.Scopes.{names_inside}

@@ -1,6 +1,6 @@
 -- The tokens from a place on: each is a part of the text, reading on behind a form gives what follows it, and forms are read off the tokens in
 -- one way only.
-use Rattle.std.proofs.Common.{◌≡◌, ℕ, ◌+◌, ◌≤◌, Bool, true, false, cond, leb, List, [], ◌∷◌, length, take, drop, Ok, Err, Result, sym, refl, ap, ◌∙◌, subst, arith}
+use Rattle.std.proofs.Common.{◌≡◌, ℕ, ◌+◌, ◌≤◌, Bool, true, false, cond, leb, List, [], ◌∷◌, length, take, drop, Some, None, Ok, Err, Option, Result, sym, refl, ap, ◌∙◌, subst, arith}
 use Rattle.std.proofs.lemmas.List.{drop-drop, length-drop, length-take-le}
 use Rattle.text.specs.Bytes.{separator_run}
 use Rattle.text.specs.Fronts.{text_front}
@@ -9,7 +9,6 @@ use Rattle.text.specs.Scans.{refused_at, nesting, precede, balanced, scan}
 use Rattle.text.specs.Tokens.{Lexeme, lexeme, Lexed, done, fault, also, lexed, lexed_from}
 use Rattle.text.specs.declared.bracket.Bracket.{Bracket}
 use Rattle.text.specs.declared.front.Front.{Front}
-use Rattle.text.specs.declared.front.Front.TheVariants.{Nothing, Token, Refused}
 use Rattle.text.specs.declared.refusal.Refusal.{Refusal}
 use Rattle.text.specs.declared.refusal.Refusal.TheVariants as refusal
 use Rattle.text.specs.declared.refusal.Refused as given
@@ -51,10 +50,12 @@ token_at text at t rest e = go (text_front x) refl
     from_at : lexed_from text at ≡ continued j x (text_front x)
     from_at = over_separators at (drop at text) ∙ ap (lexed 0 j) (drop-drop (separator_run false (drop at text)) at text) ∙ from_j
 
-    go : (f : Front) → text_front x ≡ f → TokenAt text t rest
-    go Nothing f = absurd (clash (let z : ◌≡◌ {A = Lexed} done (also t rest) = sym (from_at ∙ ap (continued j x) f) ∙ e in cc))
-    go (Refused r) f = absurd (clash (let z : ◌≡◌ {A = Lexed} (fault r j) (also t rest) = sym (from_at ∙ ap (continued j x) f) ∙ e in cc))
-    go (Token k n) f =
+    go : (f : Result (Option Front) Refusal) → text_front x ≡ f → TokenAt text t rest
+    go (Ok None) f = absurd (clash (let z : ◌≡◌ {A = Lexed} done (also t rest) = sym (from_at ∙ ap (continued j x) f) ∙ e in cc))
+    go (Err r) f = absurd (clash (let z : ◌≡◌ {A = Lexed} (fault r j) (also t rest) = sym (from_at ∙ ap (continued j x) f) ∙ e in cc))
+    go (Ok (Some begun)) f =
+        let k = begun.kind in
+        let n = begun.size in
         let same : also (lexeme k j (take n x)) (lexed 0 (j + n) (drop n x)) ≡ also t rest = sym (from_at ∙ ap (continued j x) f) ∙ e in
         let is : lexeme k j (take n x) ≡ t = cc in
         let on : lexed 0 (j + n) (drop n x) ≡ rest = cc in

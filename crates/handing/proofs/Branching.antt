@@ -2,7 +2,7 @@
 use Rattle.std.proofs.Common.{◌≡◌, ℕ, ◌<◌, ◌≤◌, false, ⊎_elim, cond, List, None, ◌==◌, sym, refl, ap, ◌∙◌, subst, arith}
 use Rattle.std.proofs.lemmas.Bool.{eq-eqb}
 use Rattle.std.proofs.lemmas.Bool.Decides.{eqb_tells}
-use Rattle.cell_data.specs.Trees.{Trees, cost}
+use Rattle.data.specs.Trees.{Trees, cost}
 use Rattle.grammar.specs.Trees.{Pattern, Expr, Branches}
 use Rattle.handing.specs.Choosing.{ChosenFields, ChosenAny, ChosenNone}
 use Rattle.program.specs.Programs.{Program}

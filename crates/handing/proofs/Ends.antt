@@ -4,8 +4,8 @@ use Rattle.std.proofs.Math.Seq.{drop-append_seam, take-append_seam}
 use Rattle.std.proofs.lemmas.List.{take-append-le, drop-map}
 use Rattle.cells.specs.Meaning.{Cells}
 use Rattle.cells.specs.declared.values.Value.{Value}
-use Rattle.cell_data.specs.Taking.{Out}
-use Rattle.cell_data.specs.Trees.{Tree, none, more, size, sizes}
+use Rattle.data.specs.Taking.{Out}
+use Rattle.data.specs.Trees.{Tree, none, more, size, sizes}
 use Rattle.handing.specs.Leaving.{Leaves}
 use Rattle.machine.proofs.Cells.{row_size}
 use Rattle.machine.proofs.Resting.{changed}

@@ -6,10 +6,10 @@ use Rattle.std.proofs.lemmas.List.{length-append, length-map, drop_all}
 use Rattle.cells.specs.Meaning.{Cells}
 use Rattle.cells.specs.declared.values.Value.{Value}
 use Rattle.cells.specs.declared.values.Value.TheVariants.{Int}
-use Rattle.cell_data.proofs.Moves.{pull}
-use Rattle.cell_data.proofs.Outs.{join, tally, out_tally}
-use Rattle.cell_data.specs.Taking.{Out}
-use Rattle.cell_data.specs.Trees.{Tree, Trees, none, more, size}
+use Rattle.data.proofs.Moves.{pull}
+use Rattle.data.proofs.Outs.{join, tally, out_tally}
+use Rattle.data.specs.Taking.{Out}
+use Rattle.data.specs.Trees.{Tree, Trees, none, more, size}
 use Rattle.grammar.specs.Trees.{PatternPart, bound, skipped}
 use Rattle.handing.proofs.Left.{capped_more}
 use Rattle.handing.proofs.Patterns.{lowest_bound, lowest_skipped}

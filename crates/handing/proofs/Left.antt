@@ -4,10 +4,10 @@ use Rattle.std.proofs.Math.Seq.{drop-cons}
 use Rattle.std.proofs.lemmas.List.{take_more, drop-drop, length-append}
 use Rattle.cells.specs.Meaning.{Cells}
 use Rattle.cells.specs.declared.values.Value.{Value}
-use Rattle.cell_data.proofs.Moves.{pull}
-use Rattle.cell_data.proofs.Outs.{join, tally, sizes_join, out_tally}
-use Rattle.cell_data.specs.Taking.{Out}
-use Rattle.cell_data.specs.Trees.{Trees, none, more, size, sizes}
+use Rattle.data.proofs.Moves.{pull}
+use Rattle.data.proofs.Outs.{join, tally, sizes_join, out_tally}
+use Rattle.data.specs.Taking.{Out}
+use Rattle.data.specs.Trees.{Trees, none, more, size, sizes}
 use Rattle.machine.proofs.Cells.{row_append}
 use Rattle.machine.specs.Holding.{value_in, values_in, tree_in, trees_in, capped}
 use Rattle.machine.specs.Holding.{Slot}

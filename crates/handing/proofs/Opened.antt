@@ -5,11 +5,11 @@ use Rattle.cells.specs.Meaning.{Cells}
 use Rattle.cells.specs.declared.records.CellRecord.{CellRecord}
 use Rattle.cells.specs.declared.values.Value.{Value}
 use Rattle.cells.specs.declared.values.Value.TheVariants.{Cell}
-use Rattle.cell_data.proofs.Moves.{unbuild, built_live}
-use Rattle.cell_data.proofs.Outs.{not_plain}
-use Rattle.cell_data.specs.Standing.{Plain}
-use Rattle.cell_data.specs.Taking.{Out, out_plain, out_cell}
-use Rattle.cell_data.specs.Trees.{Tree, int, bool, symbol, unit, function, built, Trees, none, more}
+use Rattle.data.proofs.Moves.{unbuild, built_live}
+use Rattle.data.proofs.Outs.{not_plain}
+use Rattle.data.specs.Standing.{Plain}
+use Rattle.data.specs.Taking.{Out, out_plain, out_cell}
+use Rattle.data.specs.Trees.{Tree, int, bool, symbol, unit, function, built, Trees, none, more}
 use Rattle.grammar.specs.Trees.{PatternPart, Branches}
 use Rattle.handing.proofs.Patterns.{bound_names, scope_below}
 use Rattle.handing.proofs.Views.{in_hand, waiting_for, on_tested}

@@ -2,7 +2,7 @@
 use Rattle.std.proofs.Common.{◌≡◌, ℕ, ◌+◌, ◌/◌, ◌%◌, List, [], ◌∷◌, ◌++◌, drop, Some, sym, refl, ap, ◌∙◌, subst, arith}
 use Rattle.std.proofs.lemmas.List.{drop-drop}
 use lib.Count.{ones, ones_step, ones-le}
-use Rattle.cell_data.specs.Trees.{Trees, none, more, size}
+use Rattle.data.specs.Trees.{Trees, none, more, size}
 use Rattle.grammar.specs.Trees.{PatternPart, bound, skipped}
 use Rattle.machine.specs.Holding.{names}
 use Rattle.program.specs.Scopes.{Scope, bind_scope, bits, names_inside}

@@ -3,10 +3,10 @@ use Rattle.std.proofs.Common.{◌≡◌, ℕ, Bool, List, [], ◌∷◌, refl, s
 use Rattle.cells.specs.Meaning.{Cells}
 use Rattle.cells.specs.declared.values.Value.{Value}
 use Rattle.cells.specs.declared.values.Value.TheVariants.{Bool as Truth, Function}
-use Rattle.cell_data.proofs.Moves.{plain_out}
-use Rattle.cell_data.specs.Standing.{plain_bool, plain_function}
-use Rattle.cell_data.specs.Taking.{Out, out_plain}
-use Rattle.cell_data.specs.Trees.{Tree, Trees, int, bool, symbol, unit, function, built, more}
+use Rattle.data.proofs.Moves.{plain_out}
+use Rattle.data.specs.Standing.{plain_bool, plain_function}
+use Rattle.data.specs.Taking.{Out, out_plain}
+use Rattle.data.specs.Trees.{Tree, Trees, int, bool, symbol, unit, function, built, more}
 use Rattle.grammar.specs.Trees.{Expr, Exprs, Bindings, no_bindings, and_binding}
 use Rattle.program.specs.Programs.{Program}
 use Rattle.rules.specs.States.{Environment, Frame, Account, State}

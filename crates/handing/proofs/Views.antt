@@ -3,7 +3,7 @@ use Rattle.std.specs.Prelude.{⊤, Result}
 use Rattle.std.proofs.Common.{◌≡◌, ℕ, ◌+◌, ◌<◌, ◌≤◌, List, [], ◌∷◌, length, drop, Some, None, refl, subst, arith}
 use Rattle.cells.specs.Meaning.{Cells}
 use Rattle.cells.specs.declared.values.Value.{Value}
-use Rattle.cell_data.specs.Trees.{Tree, none, more}
+use Rattle.data.specs.Trees.{Tree, none, more}
 use Rattle.grammar.specs.Trees.{Ident, Expr, Exprs, no_exprs, and_expr, Bindings, Branches}
 use Rattle.machine.specs.Holding.{names}
 use Rattle.machine.specs.Mirrors.{Rests, Mirrors, mirrors, Moved, Printed, Hands}

@@ -1,7 +1,7 @@
 -- Fields are bound.
 use Rattle.std.specs.Prelude.{◌≡◌, ℕ, List, map, Some, Option}
 use Rattle.cells.specs.Meaning.{Cells}
-use Rattle.cell_data.specs.Taking.{Out}
+use Rattle.data.specs.Taking.{Out}
 use Rattle.machine.specs.Holding.{is_full, values_in, holds, trees_in, capped}
 use Rattle.machine.specs.Holding.{Slot}
 use Rattle.rules.specs.States.{Environment}

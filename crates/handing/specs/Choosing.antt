@@ -1,6 +1,6 @@
 -- The branch of a case that fits data.
 use Rattle.std.specs.Prelude.{◌≡◌, ℕ, ◌+◌, ◌<◌, List, ◌∷◌, [], None, Some, Option}
-use Rattle.cell_data.specs.Trees.{Trees, cost, size, built}
+use Rattle.data.specs.Trees.{Trees, cost, size, built}
 use Rattle.grammar.specs.Trees.{PatternPart, Expr, Branches}
 use Rattle.handing.specs.declared.choice.Choice.{Choice}
 use Rattle.handing.specs.declared.choice.Choice.TheVariants as choice

@@ -2,9 +2,9 @@
 use Rattle.std.specs.Prelude.{◌≡◌, ℕ, List, ◌++◌, take, drop, Some, Option}
 use Rattle.cells.specs.Meaning.{Cells}
 use Rattle.cells.specs.declared.values.Value.{Value}
-use Rattle.cell_data.proofs.Outs.{join}
-use Rattle.cell_data.specs.Taking.{Out}
-use Rattle.cell_data.specs.Trees.{Trees, sizes}
+use Rattle.data.proofs.Outs.{join}
+use Rattle.data.specs.Taking.{Out}
+use Rattle.data.specs.Trees.{Trees, sizes}
 use Rattle.machine.specs.Holding.{values_in, trees_in, capped}
 use Rattle.machine.specs.Holding.{Slot}
 use Rattle.rules.specs.States.{Environment}

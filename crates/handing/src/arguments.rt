@@ -1,7 +1,7 @@
 // The head and the arguments of an application.
 ghost use Rattle.std.specs.Prelude.{◌≡◌, ℕ, ◌+◌, List, ◌∷◌};
 ghost use Rattle.cells.specs.Meaning.{Cells};
-ghost use Rattle.cell_data.specs.Trees.{Tree};
+ghost use Rattle.data.specs.Trees.{Tree};
 ghost use Rattle.machine.specs.Mirrors.{Hands, Moved, Printed, Steady, Spares, Speaks};
 ghost use Rattle.machine.specs.Waiting.{held_of};
 ghost use Rattle.program.specs.Programs.{Program};

@@ -2,7 +2,7 @@
 ghost use Rattle.std.specs.Prelude.{◌≡◌, ℕ, ◌<◌, List, ◌∷◌, Some};
 ghost use Rattle.cells.specs.Meaning.{Cells, at as at_cell};
 ghost use Rattle.cells.specs.declared.records.CellRecord.{CellRecord as Record};
-ghost use Rattle.cell_data.specs.Trees.{Tree, Trees, built};
+ghost use Rattle.data.specs.Trees.{Tree, Trees, built};
 ghost use Rattle.grammar.specs.Trees.{Branches};
 ghost use Rattle.handing.specs.Choosing.{ChosenAny, ChosenFields};
 ghost use Rattle.machine.specs.Holding.{names};
@@ -15,7 +15,7 @@ ghost use Rattle.rules.specs.Steps.{Sizes, select_branch, hand};
 use super::choice::Choice;
 use super::choosing::choose;
 use super::fields::{bind_fields, names_in};
-use cell_data::drops::drop_value;
+use data::drops::drop_value;
 use cells::records::CellRecord;
 use cells::store::CellStore;
 use cells::values::Value;

@@ -3,9 +3,9 @@ ghost use Rattle.std.specs.Prelude.{◌≡◌, ℕ, ◌+◌, ◌<◌, ◌≤◌,
 ghost use Rattle.cells.specs.Meaning.{Cells};
 ghost use Rattle.cells.specs.Records.{row};
 ghost use Rattle.cells.specs.declared.values.Value.{Value as Held};
-ghost use Rattle.cell_data.proofs.Outs.{join};
-ghost use Rattle.cell_data.specs.Taking.{Out};
-ghost use Rattle.cell_data.specs.Trees.{Tree, Trees, more, size};
+ghost use Rattle.data.proofs.Outs.{join};
+ghost use Rattle.data.specs.Taking.{Out};
+ghost use Rattle.data.specs.Trees.{Tree, Trees, more, size};
 ghost use Rattle.grammar.specs.Trees.{PatternPart};
 ghost use Rattle.handing.specs.Binding.{BindsFields};
 ghost use Rattle.machine.specs.Holding.{is_full, values_in, holds, trees_in};
@@ -14,7 +14,7 @@ ghost use Rattle.rules.specs.States.{Environment};
 ghost use Rattle.rules.specs.Steps.{binds, bind_parts};
 ghost use Rattle.stack.specs.Items.{tops, room_of};
 
-use cell_data::drops::drop_value;
+use data::drops::drop_value;
 use cells::records::CellRecord;
 use cells::store::CellStore;
 use cells::values::Value;

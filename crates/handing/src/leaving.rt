@@ -2,9 +2,9 @@
 ghost use Rattle.std.specs.Prelude.{◌≡◌, ℕ, ◌++◌, ◌≤◌, List, ◌∷◌, length, Some};
 ghost use Rattle.cells.specs.Meaning.{Cells};
 ghost use Rattle.cells.specs.declared.values.Value.{Value as Held};
-ghost use Rattle.cell_data.proofs.Outs.{join, tally};
-ghost use Rattle.cell_data.specs.Taking.{Out};
-ghost use Rattle.cell_data.specs.Trees.{Tree, Trees, more, size};
+ghost use Rattle.data.proofs.Outs.{join, tally};
+ghost use Rattle.data.specs.Taking.{Out};
+ghost use Rattle.data.specs.Trees.{Tree, Trees, more, size};
 ghost use Rattle.handing.specs.Leaving.{Leaves};
 ghost use Rattle.machine.specs.Holding.{value_in, values_in, trees_in};
 ghost use Rattle.machine.specs.Mirrors.{Hands, Moved, Steady};
@@ -14,7 +14,7 @@ ghost use Rattle.rules.specs.States.{Frame as Waits, finished as has_finished};
 ghost use Rattle.rules.specs.Steps.{Sizes, hand};
 ghost use Rattle.stack.specs.Items.{tops, room_of};
 
-use cell_data::drops::drop_value;
+use data::drops::drop_value;
 use cells::store::CellStore;
 use cells::values::Value;
 use machine::{Control, Frame, Machine, Slot};

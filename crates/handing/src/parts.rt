@@ -1,14 +1,14 @@
 // Parts of an if, a begin and a let.
 ghost use Rattle.std.specs.Prelude.{◌≡◌, ℕ, List, ◌∷◌};
 ghost use Rattle.cells.specs.Meaning.{Cells};
-ghost use Rattle.cell_data.specs.Trees.{Tree};
+ghost use Rattle.data.specs.Trees.{Tree};
 ghost use Rattle.machine.specs.Mirrors.{Hands, Moved, Steady};
 ghost use Rattle.program.specs.Programs.{Program};
 ghost use Rattle.rules.specs.States.{Environment, Account, st};
 ghost use Rattle.rules.specs.States.{Frame as Waits, finished as has_finished};
 ghost use Rattle.rules.specs.Steps.{Sizes, hand};
 
-use cell_data::drops::drop_value;
+use data::drops::drop_value;
 use cells::store::CellStore;
 use cells::values::Value;
 use machine::{Frame, Machine, Slot, bind_next, code_at};

@@ -7,10 +7,10 @@ use Rattle.std.specs.List.{slice_get}
 use Rattle.cells.specs.Meaning.{Cells}
 use Rattle.cells.specs.declared.values.Value.{Value}
 use Rattle.cells.specs.declared.values.Value.TheVariants.{Unit as Nothing}
-use Rattle.cell_data.proofs.Moves.{pull}
-use Rattle.cell_data.proofs.Outs.{join, tally, out_tally}
-use Rattle.cell_data.specs.Taking.{Out}
-use Rattle.cell_data.specs.Trees.{Tree, Trees, none, more}
+use Rattle.data.proofs.Moves.{pull}
+use Rattle.data.proofs.Outs.{join, tally, out_tally}
+use Rattle.data.specs.Taking.{Out}
+use Rattle.data.specs.Trees.{Tree, Trees, none, more}
 use Rattle.grammar.specs.Trees.{Ident, bound}
 use Rattle.machine.proofs.Cells.{row_append}
 use Rattle.machine.specs.Holding.{holds, trees_in, names}

@@ -9,10 +9,10 @@ use Rattle.cells.specs.declared.records.CellRecord.{CellRecord}
 use Rattle.cells.specs.declared.refusals.StoreRefusal.{StoreRefusal}
 use Rattle.cells.specs.declared.values.Value.{Value}
 use Rattle.cells.specs.declared.values.Value.TheVariants.{Cell, Unit as Nothing}
-use Rattle.cell_data.proofs.Moves.{build}
-use Rattle.cell_data.proofs.Outs.{join, tally}
-use Rattle.cell_data.specs.Taking.{Out}
-use Rattle.cell_data.specs.Trees.{Trees, more, built, sizes}
+use Rattle.data.proofs.Moves.{build}
+use Rattle.data.proofs.Outs.{join, tally}
+use Rattle.data.specs.Taking.{Out}
+use Rattle.data.specs.Trees.{Trees, more, built, sizes}
 use Rattle.machine.proofs.Cells.{live_cells}
 use Rattle.machine.specs.Mirrors.{Rests}
 use Rattle.machine.specs.declared.machine.Machine.{Machine}

@@ -2,8 +2,8 @@
 use Rattle.std.proofs.Common.{◌≡◌, ℕ, ◌+◌, List, [], ◌∷◌, ◌++◌, length, min, refl, ap, arith}
 use Rattle.cells.specs.Meaning.{Cells, count_live}
 use Rattle.cells.specs.declared.values.Value.{Value}
-use Rattle.cell_data.proofs.Outs.{join, sizes_join, out_count, out_long}
-use Rattle.cell_data.specs.Trees.{Trees, more, size, sizes}
+use Rattle.data.proofs.Outs.{join, sizes_join, out_count, out_long}
+use Rattle.data.specs.Trees.{Trees, more, size, sizes}
 use Rattle.machine.specs.Holding.{tree_in, trees_in, kept, capped}
 use Rattle.machine.specs.Mirrors.{Rests}
 use Rattle.machine.specs.declared.machine.Machine.{Machine}

@@ -5,7 +5,7 @@ use Rattle.std.specs.Str.{bytes_eq}
 use Rattle.std.proofs.Common.{option_map}
 use Rattle.std.proofs.lemmas.Option.{slice_get-map}
 use Rattle.cells.specs.declared.values.Value.{Value}
-use Rattle.cell_data.specs.Trees.{Tree, int, bool, symbol, unit, function, built}
+use Rattle.data.specs.Trees.{Tree, int, bool, symbol, unit, function, built}
 use Rattle.machine.specs.Holding.{names, is_full, holds, full_value}
 use Rattle.machine.specs.Holding.{Slot}
 use Rattle.program.specs.Programs.{Name}

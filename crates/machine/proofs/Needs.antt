@@ -1,7 +1,7 @@
 -- What a step of the rules needs, and what it comes to with and without it.
 use Rattle.std.proofs.Common.{◌≡◌, ℕ, ◌+◌, ◌<◌, ◌≤◌, ◌⊎◌, inl, inr, Bool, true, false, ltb, leb, List, [], ◌∷◌, length, None, refl}
 use Rattle.std.proofs.lemmas.Bool.{lt-ltb, le-ltb, le-leb, lt-leb}
-use Rattle.cell_data.specs.Trees.{Tree, built, Trees, size}
+use Rattle.data.specs.Trees.{Tree, built, Trees, size}
 use Rattle.grammar.specs.Trees.{Expr}
 use Rattle.program.specs.Programs.{Program, Name, global_of}
 use Rattle.rules.specs.declared.fault.FaultKind.{FaultKind}

@@ -6,10 +6,10 @@ use Rattle.std.proofs.lemmas.Result.{err_from_is_err_and}
 use Rattle.std.proofs.lemmas.List.{length-map, length-append}
 use Rattle.cells.specs.Meaning.{Cells}
 use Rattle.cells.specs.declared.values.Value.{Value}
-use Rattle.cell_data.proofs.Outs.{join}
-use Rattle.cell_data.specs.Standing.{Plain}
-use Rattle.cell_data.specs.Taking.{Out, out_plain}
-use Rattle.cell_data.specs.Trees.{Tree, Trees, none, more}
+use Rattle.data.proofs.Outs.{join}
+use Rattle.data.specs.Standing.{Plain}
+use Rattle.data.specs.Taking.{Out, out_plain}
+use Rattle.data.specs.Trees.{Tree, Trees, none, more}
 use Rattle.grammar.specs.Trees.{Expr}
 use Rattle.machine.specs.Holding.{values_in, is_full, trees_in, holds, names, kept, capped}
 use Rattle.machine.specs.Mirrors.{Rests, Mirrors, mirrors, Moved, moved_on, moved_not, moved_any, Printed, printed_on, printed_not, printed_any, Under, as_printing}

@@ -3,11 +3,11 @@ use Rattle.std.proofs.Common.{◌≡◌, ℕ, zero, suc, true, false, List, [], 
 use Rattle.std.specs.List.{slice_get}
 use Rattle.cells.specs.Meaning.{Cells}
 use Rattle.cells.specs.declared.values.Value.{Value}
-use Rattle.cell_data.proofs.Moves.{pull}
-use Rattle.cell_data.proofs.Outs.{Two, parts_at, joined}
-use Rattle.cell_data.specs.Standing.{Plain, plain_int, plain_bool, plain_symbol, plain_unit, plain_function}
-use Rattle.cell_data.specs.Taking.{Out, out_plain, out_cell}
-use Rattle.cell_data.specs.Trees.{Tree, Trees, none, more}
+use Rattle.data.proofs.Moves.{pull}
+use Rattle.data.proofs.Outs.{Two, parts_at, joined}
+use Rattle.data.specs.Standing.{Plain, plain_int, plain_bool, plain_symbol, plain_unit, plain_function}
+use Rattle.data.specs.Taking.{Out, out_plain, out_cell}
+use Rattle.data.specs.Trees.{Tree, Trees, none, more}
 use Rattle.machine.specs.Holding.{value_in, is_full, values_in, tree_in, holds, trees_in, slot_left}
 use Rattle.machine.specs.Holding.{Slot}
 use Rattle.program.specs.Programs.{Name}

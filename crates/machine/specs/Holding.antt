@@ -2,7 +2,7 @@
 use Rattle.std.specs.Prelude.{ℕ, Bool, true, false, List, [], ◌∷◌, ◌++◌, map, min, Some, None, Option}
 use Rattle.cells.specs.declared.values.Value.{Value}
 use Rattle.cells.specs.declared.values.Value.TheVariants.{Int, Bool as Truth, Sym, Unit as Nothing, Function, Cell}
-use Rattle.cell_data.specs.Trees.{Tree, Trees, unit, none, more}
+use Rattle.data.specs.Trees.{Tree, Trees, unit, none, more}
 use Rattle.program.specs.Scopes.{Scope}
 use Rattle.rules.specs.States.{Entry, full, empty, argument, Environment, Frame, saved}
 

@@ -3,9 +3,9 @@ use Rattle.std.specs.Prelude.{◌≡◌, ℕ, ◌+◌, ◌<◌, ◌≤◌, List,
 use Rattle.basis.specs.declared.function.Basis.{Basis}
 use Rattle.cells.specs.Meaning.{Cells, count_live}
 use Rattle.cells.specs.declared.values.Value.{Value}
-use Rattle.cell_data.proofs.Outs.{join}
-use Rattle.cell_data.specs.Taking.{Out}
-use Rattle.cell_data.specs.Trees.{Tree, int, bool, symbol, unit, function, built, Trees}
+use Rattle.data.proofs.Outs.{join}
+use Rattle.data.specs.Taking.{Out}
+use Rattle.data.specs.Trees.{Tree, int, bool, symbol, unit, function, built, Trees}
 use Rattle.machine.specs.Holding.{values_in, is_full, trees_in, holds, names, kept, capped}
 use Rattle.machine.specs.Ready.{Ready, Quoted}
 use Rattle.machine.specs.Waiting.{Waits, Next, value_in_hand, handed}

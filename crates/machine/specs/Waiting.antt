@@ -1,7 +1,7 @@
 -- The frames of a machine stand for the waiting expressions of the rules, one by one.
 use Rattle.std.specs.Prelude.{◌≡◌, ℕ, suc, ◌+◌, zero, List, [], ◌∷◌, length, drop, Some, None}
 use Rattle.cells.specs.declared.values.Value.{Value}
-use Rattle.cell_data.specs.Trees.{Tree, Trees, none, more}
+use Rattle.data.specs.Trees.{Tree, Trees, none, more}
 use Rattle.grammar.specs.Trees.{Ident, Expr, Exprs, Bindings, Branches}
 use Rattle.machine.specs.Holding.{names}
 use Rattle.machine.specs.declared.control.Control.{Control as Ahead}

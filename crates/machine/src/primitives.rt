@@ -1,7 +1,7 @@
 // The calls that every step ends in: what they answer is what the step came to.
 ghost use Rattle.std.specs.Prelude.{◌≡◌, ℕ, List, [], ◌∷◌};
 ghost use Rattle.cells.specs.Meaning.{Cells};
-ghost use Rattle.cell_data.specs.Trees.{Tree, none, more};
+ghost use Rattle.data.specs.Trees.{Tree, none, more};
 ghost use Rattle.grammar.specs.Trees.{Expr};
 ghost use Rattle.machine.specs.Holding.{names};
 ghost use Rattle.machine.specs.Mirrors.{Rests, Mirrors, Moved, Onto, Under, Steady, as_printing, printed_bytes};

@@ -8,7 +8,7 @@ use Rattle.basis.specs.declared.applied.Applied.{Applied}
 use Rattle.basis.specs.declared.applied.Applied.TheVariants as applied
 use Rattle.basis.specs.declared.function.Basis.{Basis}
 use Rattle.basis.specs.declared.plain.Plain.{Plain}
-use Rattle.cell_data.specs.Trees.{Tree, int, bool, symbol, unit, function, built, Trees, none, more, cost, size, sizes}
+use Rattle.data.specs.Trees.{Tree, int, bool, symbol, unit, function, built, Trees, none, more, cost, size, sizes}
 use Rattle.grammar.specs.Trees as tree
 use Rattle.grammar.specs.Trees.{Ident, PatternPart, bound, skipped, Pattern, wildcard, constructor, Expr, Exprs, no_exprs, and_expr, Bindings, no_bindings, and_binding, Branches, last_branch, and_branch}
 use Rattle.program.specs.Compiling.{binding_count}

@@ -1,7 +1,7 @@
 -- What every step keeps, every list of advances keeps.
 use Rattle.std.proofs.Common.{◌≡◌, ℕ, zero, suc, ◌-◌, Bool, true, false, cond, eqb, leb, List, [], ◌∷◌, length, Some, None, Option, sym, refl, subst}
 use Rattle.basis.specs.declared.function.Basis.{Basis}
-use Rattle.cell_data.specs.Trees.{Tree}
+use Rattle.data.specs.Trees.{Tree}
 use Rattle.grammar.specs.Trees.{Expr}
 use Rattle.program.specs.Programs.{Program}
 use Rattle.rules.specs.declared.answers.End.{End}

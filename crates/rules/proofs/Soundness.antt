@@ -16,8 +16,8 @@ use Rattle.basis.specs.declared.fault.ArithmeticFault.{ArithmeticFault}
 use Rattle.basis.specs.declared.fault.ArithmeticFault.TheVariants as arithmetic
 use Rattle.basis.specs.declared.function.Basis.{Basis}
 use Rattle.basis.specs.declared.plain.Plain.{Plain}
-use Rattle.cell_data.specs.Trees as value
-use Rattle.cell_data.specs.Trees.{Tree, built, Trees, none, more, cost, size}
+use Rattle.data.specs.Trees as value
+use Rattle.data.specs.Trees.{Tree, built, Trees, none, more, cost, size}
 use Rattle.grammar.specs.Trees as tree
 use Rattle.grammar.specs.Trees.{Ident, PatternPart, bound, skipped, Pattern, wildcard, constructor, Expr, Exprs, no_exprs, and_expr, Bindings, no_bindings, and_binding, Branches, last_branch, and_branch}
 use Rattle.program.specs.Compiling.{binding_count}

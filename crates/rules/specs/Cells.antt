@@ -1,7 +1,7 @@
 -- The cells that a step needs, and those that are free: one for a constructor that is applied, as many as the value has constructors
 -- for a dup, and none for any other step.
 use Rattle.std.specs.Prelude.{ℕ, ◌+◌, ◌-◌, ◌∷◌}
-use Rattle.cell_data.specs.Trees.{Tree, none, cost, size}
+use Rattle.data.specs.Trees.{Tree, none, cost, size}
 use Rattle.grammar.specs.Trees as tree
 use Rattle.grammar.specs.Trees.{Expr, Exprs, no_exprs, and_expr}
 use Rattle.program.specs.Programs as means

@@ -2,8 +2,8 @@
 use Rattle.std.specs.Prelude.{ℕ}
 use Rattle.cells.specs.declared.refusals.StoreRefusal.{StoreRefusal}
 use Rattle.cells.specs.declared.refusals.StoreRefusal.TheVariants as store
-use Rattle.cell_data.specs.declared.refusals.WalkRefusal.{WalkRefusal}
-use Rattle.cell_data.specs.declared.refusals.WalkRefusal.TheVariants as walk
+use Rattle.data.specs.declared.refusals.WalkRefusal.{WalkRefusal}
+use Rattle.data.specs.declared.refusals.WalkRefusal.TheVariants as walk
 use Rattle.rules.specs.declared.fault.FaultKind.{FaultKind}
 use Rattle.rules.specs.declared.fault.FaultKind.TheVariants.{NoBranch, ZeroDivisor, BadShift, TooFewCells, StackFull, Stuck, AllowanceSpent}
 

@@ -1,7 +1,7 @@
 -- The entries that a step needs on the two stacks: on the first one more where an expression begins to wait, on the second one for
 -- each name that it binds and each argument that it is handed.
 use Rattle.std.specs.Prelude.{ℕ, ◌+◌, ◌<◌, ◌⊎◌, Bool, true, cond, ◌∷◌, length}
-use Rattle.cell_data.specs.Trees.{Tree, built}
+use Rattle.data.specs.Trees.{Tree, built}
 use Rattle.grammar.specs.Trees as tree
 use Rattle.grammar.specs.Trees.{Pattern, wildcard, constructor, Expr, Exprs, no_exprs, Branches, last_branch, and_branch}
 use Rattle.program.specs.Programs as means

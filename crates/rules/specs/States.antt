@@ -1,6 +1,6 @@
 -- The state of a run on trees: what waits, what is held, and what comes next.
 use Rattle.std.specs.Prelude.{ℕ, ◌+◌, List, [], ◌∷◌, length}
-use Rattle.cell_data.specs.Trees.{Tree, size}
+use Rattle.data.specs.Trees.{Tree, size}
 use Rattle.grammar.specs.Trees.{Ident, Expr, Exprs, Bindings, Branches}
 use Rattle.program.specs.Programs.{Name}
 

@@ -14,7 +14,7 @@ use Rattle.basis.specs.declared.plain.Plain.{Plain}
 use Rattle.basis.specs.declared.plain.Plain.TheVariants as plain
 use Rattle.basis.specs.declared.print.Print.{Print}
 use Rattle.basis.specs.declared.print.Print.TheVariants as print
-use Rattle.cell_data.specs.Trees.{Tree, int, bool, symbol, unit, function, built, Trees, none, more, cost, size}
+use Rattle.data.specs.Trees.{Tree, int, bool, symbol, unit, function, built, Trees, none, more, cost, size}
 use Rattle.layout.specs.Literals.{Literal, place_of_first}
 use Rattle.grammar.specs.Trees as tree
 use Rattle.grammar.specs.Trees.{Ident, PatternPart, bound, skipped, Pattern, wildcard, constructor, Expr, Exprs, no_exprs, and_expr, Bindings, no_bindings, and_binding, Branches, last_branch, and_branch, place_of}

@@ -5,7 +5,7 @@ ghost use Rattle.rules.specs.Steps.{fault_kind};
 ghost use Rattle.rules.specs.declared.fault.FaultKind.TheVariants as kind;
 
 use basis::{ArithmeticFault, Basis};
-use cell_data::refusals::WalkRefusal;
+use data::refusals::WalkRefusal;
 use cells::refusals::StoreRefusal;
 use layout::Word;
 use stack::Full;

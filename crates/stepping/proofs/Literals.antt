@@ -1,7 +1,7 @@
 -- The literals that a machine enters are quoted in its text.
 use Rattle.std.proofs.Common.{◌≡◌, ℕ, List, sym, refl, subst}
 use Rattle.cells.specs.Meaning.{Cells}
-use Rattle.cell_data.specs.Trees.{Tree, int, bool, symbol, unit, function, built}
+use Rattle.data.specs.Trees.{Tree, int, bool, symbol, unit, function, built}
 use Rattle.grammar.specs.Trees as tree
 use Rattle.grammar.specs.Trees.{Expr}
 use Rattle.layout.specs.Literals.{place_of_first}

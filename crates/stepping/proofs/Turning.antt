@@ -3,7 +3,7 @@ use Rattle.std.proofs.Common.{◌≡◌, ℕ, List, [], ◌∷◌, length, Some,
 use Rattle.std.specs.List.{slice_get}
 use Rattle.cells.specs.Meaning.{Cells}
 use Rattle.cells.specs.declared.values.Value.{Value}
-use Rattle.cell_data.specs.Trees.{Tree, none}
+use Rattle.data.specs.Trees.{Tree, none}
 use Rattle.grammar.specs.Trees.{Expr}
 use Rattle.machine.proofs.Resting.{waiting_count}
 use Rattle.machine.specs.Holding.{names}

@@ -1,6 +1,6 @@
 -- The symbols that a state holds are those of the text.
 use Rattle.std.specs.Prelude.{ℕ, List, [], ◌∷◌}
-use Rattle.cell_data.specs.Trees.{Tree, int, bool, symbol, unit, function, built, Trees, none, more}
+use Rattle.data.specs.Trees.{Tree, int, bool, symbol, unit, function, built, Trees, none, more}
 use Rattle.machine.specs.Ready.{Quoted}
 use Rattle.program.specs.Programs.{Program}
 use Rattle.rules.specs.States.{Entry, full, empty, argument, Environment, Frame, saved, Control, opened, enter, finished, over, State, st}

@@ -1,7 +1,7 @@
 // A finished value is handed to the expression that waits for it.
 ghost use Rattle.std.specs.Prelude.{◌≡◌, ℕ, List, ◌∷◌};
 ghost use Rattle.cells.specs.Meaning.{Cells};
-ghost use Rattle.cell_data.specs.Trees.{Tree};
+ghost use Rattle.data.specs.Trees.{Tree};
 ghost use Rattle.machine.specs.Mirrors.{Hands, Printed, Spares, Speaks, Steady};
 ghost use Rattle.program.specs.Programs.{Program};
 ghost use Rattle.rules.specs.States.{Environment, Account, st};

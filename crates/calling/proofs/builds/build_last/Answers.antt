@@ -1,7 +1,7 @@
 use Rattle.std.proofs.Common.{◌≡◌, ◌+◌, inl, inr, take, length, ap, arith, length-take}
 use Rattle.calling.proofs.Gathered.{missing, build_done, build_refused}
 use Rattle.machine.proofs.Resting.{by_rule, same_store, in_hand_law, faulted_as}
-use Rattle.cell_data.specs.Trees.{built}
+use Rattle.data.specs.Trees.{built}
 use Rattle.rules.specs.States.{takes}
 use Rattle.machine.specs.Mirrors.{moved_any}
 use Rattle.rules.specs.Faults.{store_fault}

@@ -4,8 +4,8 @@ use Rattle.std.proofs.Common.{Some, sym, refl, ap, ◌∙◌, subst, rules}
 use Rattle.std.proofs.lemmas.Int.{to_z-of_z}
 use Rattle.calling.specs.Applying.{SaysApplied}
 use Rattle.cells.specs.declared.values.Value.TheVariants.{Int}
-use Rattle.cell_data.specs.Standing.{Plain, plain_int, plain_bool}
-use Rattle.cell_data.specs.Trees.{int, bool}
+use Rattle.data.specs.Standing.{Plain, plain_int, plain_bool}
+use Rattle.data.specs.Trees.{int, bool}
 use Rattle.machine.proofs.Resting.{silent, by_printing}
 use Rattle.machine.specs.Mirrors.{printed_not, printed_any}
 use Rattle.rules.specs.Steps.{answer, finish, fails}

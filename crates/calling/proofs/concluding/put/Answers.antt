@@ -3,8 +3,8 @@ use Rattle.std.specs.Option.{ok_or}
 use Rattle.std.proofs.lemmas.Result.{err_from_is_err_and}
 use Rattle.basis.specs.Printing.{printed}
 use Rattle.calling.proofs.Exchange.{fits, fits_not}
-use Rattle.cell_data.specs.Standing.{plain_unit}
-use Rattle.cell_data.specs.Trees.{unit}
+use Rattle.data.specs.Standing.{plain_unit}
+use Rattle.data.specs.Trees.{unit}
 use Rattle.machine.proofs.Resting.{with_plain, then, by_printing}
 use Rattle.machine.specs.Mirrors.{Printed, printed_on, printed_full, mirrors}
 use Rattle.machine.specs.Waiting.{next_finished}

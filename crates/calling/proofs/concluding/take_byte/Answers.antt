@@ -5,8 +5,8 @@ use Rattle.std.proofs.lemmas.Int.{to_z-of_z}
 use Rattle.std.proofs.lemmas.List.{nil_from_length}
 use Rattle.calling.proofs.Exchange.{under_read}
 use Rattle.cells.specs.declared.values.Value.TheVariants.{Int}
-use Rattle.cell_data.specs.Standing.{Plain, plain_int}
-use Rattle.cell_data.specs.Trees.{int}
+use Rattle.data.specs.Standing.{Plain, plain_int}
+use Rattle.data.specs.Trees.{int}
 use Rattle.machine.proofs.Needs.{finishes}
 use Rattle.machine.proofs.Resting.{by_rule}
 use Rattle.rules.specs.States.{leaves}

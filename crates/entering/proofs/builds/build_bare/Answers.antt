@@ -1,6 +1,6 @@
 use Rattle.std.proofs.Common.{◌+◌, ◌++◌, [], ◌∷◌, min, sym, refl, ap, ◌∙◌, subst, arith}
-use Rattle.cell_data.specs.Taking.{Out}
-use Rattle.cell_data.specs.Trees.{none, more, built}
+use Rattle.data.specs.Taking.{Out}
+use Rattle.data.specs.Trees.{none, more, built}
 use Rattle.machine.proofs.Building.{built_out, cell_free, cells_full}
 use Rattle.machine.proofs.Cells.{capped_add}
 use Rattle.machine.proofs.Needs.{build_fits, build_lacks}

@@ -3,8 +3,8 @@ use mir.Syntax.{w32}
 use Rattle.std.proofs.Common.{rules, [], ◌≡◌, ◌+◌, ◌<◌, ◌++◌, sym, refl, ap, ◌∙◌, subst, arith}
 use Rattle.std.proofs.lemmas.Int.{to_z-of_z}
 use Rattle.cells.specs.declared.values.Value.TheVariants.{Int}
-use Rattle.cell_data.specs.Standing.{Plain, plain_int, plain_bool, plain_symbol, plain_unit, plain_function}
-use Rattle.cell_data.specs.Trees.{int, bool, symbol, unit, function}
+use Rattle.data.specs.Standing.{Plain, plain_int, plain_bool, plain_symbol, plain_unit, plain_function}
+use Rattle.data.specs.Trees.{int, bool, symbol, unit, function}
 use Rattle.entering.proofs.Views.{Enters, at_integer, at_symbol, at_boolean, at_unit, at_local, at_dup, at_function, at_val, at_if, at_begin, at_let, at_case, at_call, at_build, calls_wait, function_named, val_named, construct_named, let_waits, no_other}
 use Rattle.machine.proofs.Nodes.{stands_as}
 use Rattle.machine.proofs.Resting.{entered, entered_at, with_plain, by_rule}

@@ -1,7 +1,7 @@
 use Rattle.machine.specs.declared.halt.Halt.TheVariants.{Failed}
 use Rattle.std.proofs.Common.{Err, ◌≡◌, ◌+◌, ◌<◌, ◌≤◌, suc, inl, inr, true, ◌∷◌, ◌++◌, map, set, drop, None, sym, refl, ap, ◌∙◌, subst, arith}
-use Rattle.cell_data.specs.Taking.{Out}
-use Rattle.cell_data.specs.Trees.{more}
+use Rattle.data.specs.Taking.{Out}
+use Rattle.data.specs.Trees.{more}
 use Rattle.handing.proofs.Views.{HandedOut, in_hand, waiting_for, on_argument, arguments_next, arguments_done}
 use Rattle.machine.proofs.Needs.{entries_fit, no_entries}
 use Rattle.machine.proofs.Resting.{renewed, slots_count, silent, by_printing}

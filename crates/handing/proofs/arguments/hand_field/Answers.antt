@@ -1,6 +1,6 @@
 use Rattle.std.proofs.Common.{Err, ◌≡◌, ◌+◌, ◌-◌, ◌<◌, ◌≤◌, suc, inl, inr, true, ◌∷◌, ◌++◌, [], map, set, drop, None, sym, ap, ◌∙◌, subst, arith}
-use Rattle.cell_data.specs.Taking.{Out}
-use Rattle.cell_data.specs.Trees.{none, more}
+use Rattle.data.specs.Taking.{Out}
+use Rattle.data.specs.Trees.{none, more}
 use Rattle.handing.proofs.Views.{HandedBy, in_hand, waiting_for, on_field, arguments_next, arguments_done}
 use Rattle.machine.proofs.Needs.{entries_fit, no_entries}
 use Rattle.machine.proofs.Resting.{renewed, slots_count, by_rule}

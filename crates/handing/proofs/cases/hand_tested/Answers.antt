@@ -1,5 +1,5 @@
 use Rattle.std.proofs.Common.{Err, Some, ◌∙◌, sym, ◌∷◌, ap, subst, arith}
-use Rattle.cell_data.specs.Trees.{built}
+use Rattle.data.specs.Trees.{built}
 use Rattle.handing.proofs.Opened.{dead_cell, no_tested, below_case, on_opened, branches_at, constructor_read}
 use Rattle.handing.proofs.Views.{in_hand, waiting_for, on_tested}
 use Rattle.handing.specs.Choosing.{Chosen, ChosenNone, ChosenAny, ChosenFields}

@@ -1,6 +1,6 @@
 use Rattle.std.proofs.Common.{◌≡◌, ◌+◌, ◌∷◌, set, min, sym, refl, ap, ◌∙◌, subst, arith}
-use Rattle.cell_data.proofs.Moves.{drop_held}
-use Rattle.cell_data.specs.Trees.{built, size}
+use Rattle.data.proofs.Moves.{drop_held}
+use Rattle.data.specs.Trees.{built, size}
 use Rattle.handing.proofs.Opened.{below_case}
 use Rattle.handing.proofs.Views.{in_hand, waiting_for}
 use Rattle.machine.proofs.Cells.{capped_add}

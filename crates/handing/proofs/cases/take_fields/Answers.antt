@@ -1,9 +1,9 @@
 use Rattle.std.proofs.Common.{Err, ◌≡◌, ◌+◌, ◌∷◌, ◌++◌, [], set, min, sym, refl, ap, ◌∙◌, subst, arith}
 use Rattle.cells.specs.Records.{row}
-use Rattle.cell_data.proofs.Moves.{unbuild}
-use Rattle.cell_data.proofs.Outs.{join}
-use Rattle.cell_data.specs.Taking.{Out}
-use Rattle.cell_data.specs.Trees.{built, cost}
+use Rattle.data.proofs.Moves.{unbuild}
+use Rattle.data.proofs.Outs.{join}
+use Rattle.data.specs.Taking.{Out}
+use Rattle.data.specs.Trees.{built, cost}
 use Rattle.handing.proofs.Opened.{below_case, bound_rests}
 use Rattle.handing.proofs.Patterns.{bound_names, bound_over}
 use Rattle.handing.proofs.Views.{in_hand, waiting_for}

@@ -1,6 +1,6 @@
 use Rattle.std.proofs.Common.{refl, ap, ◌∙◌}
 use Rattle.std.specs.Result.{result_ok}
-use Rattle.cell_data.proofs.Moves.{drop_held}
+use Rattle.data.proofs.Moves.{drop_held}
 use Rattle.handing.proofs.fields.bind_field.Goals as goal
 
 pub returns-clause-skipped : goal.returns-clause-skipped

@@ -1,9 +1,9 @@
 use Rattle.std.proofs.Common.{◌≡◌, ℕ, ◌+◌, ◌≤◌, List, ◌++◌, map, length, drop}
 use Rattle.cells.specs.Meaning.{Cells}
 use Rattle.cells.specs.Records.{row}
-use Rattle.cell_data.proofs.Outs.{join}
-use Rattle.cell_data.specs.Taking.{Out}
-use Rattle.cell_data.specs.Trees.{Trees}
+use Rattle.data.proofs.Outs.{join}
+use Rattle.data.specs.Taking.{Out}
+use Rattle.data.specs.Trees.{Trees}
 use Rattle.grammar.specs.Trees.{PatternPart}
 use Rattle.handing.proofs.Fitting.{Fitting}
 use Rattle.machine.specs.Holding.{is_full, values_in, holds, trees_in}

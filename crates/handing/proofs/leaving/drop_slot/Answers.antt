@@ -1,9 +1,9 @@
 use Rattle.std.proofs.Common.{◌∷◌, Some, ap, sym, ◌∙◌, subst}
 use Rattle.std.specs.Result.{result_ok}
-use Rattle.cell_data.proofs.Moves.{drop_held, plain_out}
-use Rattle.cell_data.specs.Standing.{plain_unit}
-use Rattle.cell_data.specs.Taking.{Out}
-use Rattle.cell_data.specs.Trees.{more, size}
+use Rattle.data.proofs.Moves.{drop_held, plain_out}
+use Rattle.data.specs.Standing.{plain_unit}
+use Rattle.data.specs.Taking.{Out}
+use Rattle.data.specs.Trees.{more, size}
 use Rattle.machine.specs.Holding.{value_in}
 use Rattle.handing.proofs.leaving.drop_slot.Goals as goal
 

@@ -1,4 +1,4 @@
-use Rattle.cell_data.specs.Trees.{more, none, sizes}
+use Rattle.data.specs.Trees.{more, none, sizes}
 use Rattle.handing.proofs.Ends.{body_left, gone, left_rests, names_drop, names_length, scope_left}
 use Rattle.handing.proofs.Views.{HandedBy, in_hand, on_body, on_leaving, waiting_for}
 use Rattle.machine.proofs.Resting.{by_rule, changed}

@@ -1,9 +1,9 @@
 use Rattle.std.specs.Prelude.{Ok}
 use Rattle.std.proofs.Common.{◌≡◌, ◌+◌, [], ◌++◌, map, drop, min, refl, sym, ap, ◌∙◌, subst, arith}
-use Rattle.cell_data.proofs.Moves.{drop_held}
-use Rattle.cell_data.specs.Taking.{Out}
+use Rattle.data.proofs.Moves.{drop_held}
+use Rattle.data.specs.Taking.{Out}
 use Rattle.stack.specs.Items.{tops}
-use Rattle.cell_data.specs.Trees.{size}
+use Rattle.data.specs.Trees.{size}
 use Rattle.handing.proofs.Ends.{no_names}
 use Rattle.handing.proofs.Views.{HandedBy, in_hand, waiting_for, on_main}
 use Rattle.machine.proofs.Cells.{capped_add}

@@ -1,9 +1,9 @@
 use Rattle.std.proofs.Common.{◌≡◌, ◌+◌, ◌∷◌, ◌++◌, drop, ap, ◌∙◌, subst, arith}
-use Rattle.cell_data.proofs.Outs.{join}
-use Rattle.cell_data.specs.Taking.{Out}
+use Rattle.data.proofs.Outs.{join}
+use Rattle.data.specs.Taking.{Out}
 use Rattle.handing.proofs.Left.{first_left, fronted, popped, capped_more, not_empty}
 use Rattle.machine.specs.Holding.{values_in, tree_in, trees_in, capped}
-use Rattle.cell_data.specs.Trees.{size}
+use Rattle.data.specs.Trees.{size}
 use Rattle.stack.specs.Items.{tops}
 use Rattle.handing.proofs.leaving.leave.Goals as goal
 

@@ -1,9 +1,9 @@
 use Rattle.std.proofs.Common.{◌≡◌, ◌++◌, ◌≤◌, List, length, take, drop}
 use Rattle.cells.specs.Meaning.{Cells}
 use Rattle.cells.specs.declared.values.Value.{Value}
-use Rattle.cell_data.proofs.Outs.{join, tally}
-use Rattle.cell_data.specs.Taking.{Out}
-use Rattle.cell_data.specs.Trees.{Trees, sizes}
+use Rattle.data.proofs.Outs.{join, tally}
+use Rattle.data.specs.Taking.{Out}
+use Rattle.data.specs.Trees.{Trees, sizes}
 use Rattle.machine.specs.Holding.{values_in, trees_in, capped}
 use Rattle.rules.specs.States.{Environment}
 use Rattle.stack.specs.Items.{tops, room_of}

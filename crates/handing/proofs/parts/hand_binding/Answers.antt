@@ -1,5 +1,5 @@
 use Rattle.std.proofs.Common.{◌≡◌, ◌+◌, suc, ◌∷◌, ◌++◌, [], true, set, drop, map, sym, refl, ap, ◌∙◌, subst, arith}
-use Rattle.cell_data.specs.Taking.{Out}
+use Rattle.data.specs.Taking.{Out}
 use Rattle.handing.proofs.Views.{HandedBy, in_hand, waiting_for, on_binding}
 use Rattle.machine.proofs.Needs.{entries_fit, entries_lack}
 use Rattle.handing.proofs.Tests.{let_goes}

@@ -1,6 +1,6 @@
 use Rattle.std.proofs.Common.{◌≡◌, ◌+◌, ◌<◌, ◌≤◌, ◌∷◌, set, drop, min, sym, refl, ap, ◌∙◌, subst}
-use Rattle.cell_data.proofs.Moves.{drop_held}
-use Rattle.cell_data.specs.Trees.{size}
+use Rattle.data.proofs.Moves.{drop_held}
+use Rattle.data.specs.Trees.{size}
 use Rattle.handing.proofs.Views.{HandedBy, in_hand, waiting_for, on_part, row_next, row_done}
 use Rattle.machine.proofs.Cells.{capped_add}
 use Rattle.machine.proofs.Resting.{renewed, reframed}
