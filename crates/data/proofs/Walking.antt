@@ -17,8 +17,7 @@ use Rattle.data.specs.Standing.{Among, among_first, among_later, plain_unit, les
 use Rattle.data.specs.Taking.{Out, out_plain, out_cell}
 use Rattle.data.specs.Reaching.{HasCell, has_first, has_later}
 use Rattle.data.specs.Refusals.{OnlyStuck}
-use Rattle.data.specs.declared.visit.Visit.{Visit}
-use Rattle.data.specs.WorkLists.{open_value, Found, by_value, by_list, Lost, value_lost, list_lost, Stands}
+use Rattle.data.specs.WorkLists.{open_value, Lost, value_lost, list_lost, Stands}
 use Rattle.data.specs.Steps.{Links, links_end, links_on, next_of, rest_of, ValuePushed, push_nothing, push_data, Astray, FieldAdded, add_nothing, add_data, RowAdded, added_none, added_more, Halted}
 use Rattle.data.proofs.Stores.{some_none, within, less_live, less_free, less_set}
 use Rattle.data.proofs.Links.{links_done, links_first, links_other}
@@ -165,24 +164,6 @@ pub record Comes (cs : Cells) (todo : Todo) (n : ℕ) (r : CellRecord) (rest : �
   pub next : n ≡ next_of todo.value todo.rest
   pub here : at cs n ≡ Some r
   pub behind : rest ≡ rest_of todo.value todo.rest r.spare
-
--- the visit of an open walk is at the cell that comes next
-pub found_comes : {cs : Cells} {todo : Todo} {visit : Visit} → open_value todo ≡ true → Found cs todo visit → Comes cs todo visit.cell visit.contents visit.rest
-found_comes go (by_value is here behind) = record { goes = go; next = rw is refl; here = here; behind = rw is behind }
-found_comes {cs} {todo} {visit} go (by_list plain is here behind) = of_value todo.value refl
-  where
-    of_value : (v : Value) → todo.value ≡ v → Comes cs todo visit.cell visit.contents visit.rest
-    of_value (Cell n) e = absurd (false≢true (sym plain ∙ ap is_cell e))
-    of_value v e = record { goes = go; next = rw e (sym is); here = here; behind = rw e behind }
-
--- a walk that has lost its way is at no live cell
-pub next_lost : {cs : Cells} {todo : Todo} → Lost cs todo → at cs (next_of todo.value todo.rest) ≡ None
-next_lost (value_lost n is dead) = rw is dead
-next_lost {cs} {todo} (list_lost plain dead) = of_value todo.value refl
-  where
-    of_value : (v : Value) → todo.value ≡ v → at cs (next_of todo.value todo.rest) ≡ None
-    of_value (Cell n) e = absurd (false≢true (sym plain ∙ ap is_cell e))
-    of_value v e = rw e dead
 
 visit : (cs cs₁ after : Cells) {todo : Todo} {n rest k : ℕ} {r : CellRecord} (done done₁ : List ℕ) → Comes cs todo n r rest → less done₁ cs₁ ≡ set (less done cs) n None → Ahead (less done cs) (todo.value ∷ []) todo.rest k after
     → (left : ℕ) × (k ≡ 1 + left) × Ahead (less done₁ cs₁) (row r ++ Nothing ∷ []) rest left after

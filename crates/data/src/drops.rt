@@ -2,7 +2,7 @@ ghost use Rattle.data.specs.Walks.{Drops};
 
 use crate::refusals::WalkRefusal;
 use crate::todo::Todo;
-use crate::work_list::{END, add_fields, is_open, next_visit};
+use crate::work_list::{END, add_fields, is_open, look, next_cell, rest_after};
 use cells::store::CellStore;
 use cells::values::Value;
 
@@ -13,9 +13,12 @@ pub fn drop_value<S: CellStore>(store: &mut S, value: Value) -> Result<u32, Walk
     let mut todo = Todo { value, rest: END };
     let mut count: u32 = 0;
     'walk: while is_open(todo) {
-        let visit = next_visit(store, todo)?;
-        store.give_back(visit.cell)?;
-        todo = add_fields(store, visit.contents, visit.rest)?;
+        let cell = next_cell(todo);
+        // not by `next_visit`, as in a size
+        let contents = look(store, cell)?;
+        let rest = rest_after(todo, contents.spare);
+        store.give_back(cell as u16)?;
+        todo = add_fields(store, &contents, rest)?;
         count += 1;
     }
     Ok(count)

@@ -2,7 +2,7 @@ ghost use Rattle.data.specs.Walks.{Sizes};
 
 use crate::refusals::WalkRefusal;
 use crate::todo::Todo;
-use crate::work_list::{END, add_fields, is_open, next_visit};
+use crate::work_list::{END, add_fields, is_open, look, next_cell, rest_after};
 use cells::store::CellStore;
 use cells::values::Value;
 
@@ -17,8 +17,10 @@ pub fn size_of<S: CellStore>(store: &mut S, value: Value) -> Result<u32, WalkRef
         if count >= limit {
             return Err(WalkRefusal::Stuck);
         }
-        let visit = next_visit(store, todo)?;
-        todo = add_fields(store, visit.contents, visit.rest)?;
+        // not by `next_visit`: with the record in a visit a size took up to a fifth longer
+        let contents = look(store, next_cell(todo))?;
+        let rest = rest_after(todo, contents.spare);
+        todo = add_fields(store, &contents, rest)?;
         count += 1;
     }
     Ok(count)

@@ -1,23 +1,23 @@
-use Rattle.std.proofs.Common.{◌≤◌, [], sym, refl, arith, rules}
+use Rattle.std.proofs.Common.{◌≤◌, [], sym, arith, rules}
 use Rattle.cells.proofs.CellLaws.{count_le}
 use Rattle.cells.proofs.Calls.{given_count}
 use Rattle.data.proofs.Spares.{respared_count}
 use Rattle.data.proofs.Roaming.{added_same}
-use Rattle.data.proofs.Walking.{never_lost, next_lost, found_comes}
+use Rattle.data.proofs.Walking.{never_lost}
 use Rattle.data.proofs.Dropping.{dropping_start, dropping_turn, dropping_refused, dropping_halted, dropping_end}
 use Rattle.data.proofs.drops.drop_value.Goals as goal
 
 pub walk-init : goal.walk-init
 walk-init g c = dropping_start (g.S.CellStore.cells c.args.store.now) c.args.value
 
-pub returns-in_err-visit : goal.returns-in_err-visit
-returns-in_err-visit g c =
+pub returns-in_err-contents : goal.returns-in_err-contents
+returns-in_err-contents g c =
     dropping_refused _ (search rules) c.walk.invariant
-    (λ k m₀ a. never_lost _ [] c.walk.todo k m₀ (sym c.walk-test.ensures) (next_lost c.in_err-visit.ensures.1) a)
+    (λ k m₀ a. never_lost _ [] c.walk.todo k m₀ (sym c.walk-test.ensures) (rw c.next_cell-cell.ensures at c.in_err-contents.ensures.1) a)
 
 pub returns-in_err-todo : goal.returns-in_err-todo
 returns-in_err-todo g c =
-    dropping_halted _ (search rules) (g.S.CellStore.small c.walk.store) (found_comes (sym c.walk-test.ensures) c.in_ok-visit.ensures) refl c.in_ok-give_back.ensures c.in_err-todo.ensures.steps.1 c.walk.invariant
+    dropping_halted _ (search rules) (g.S.CellStore.small c.walk.store) record { goes = sym c.walk-test.ensures; next = cc; here = c.in_ok-contents.ensures.0; behind = cc } (cc) c.in_ok-give_back.ensures c.in_err-todo.ensures.steps.1 c.walk.invariant
 
 pub overflow_add-count : goal.overflow_add-count
 overflow_add-count g c =
@@ -31,7 +31,7 @@ walk-smaller g c =
 
 pub walk-preserved : goal.walk-preserved
 walk-preserved g c =
-    dropping_turn (omega arith) (g.S.CellStore.small c.walk.store) (found_comes (sym c.walk-test.ensures) c.in_ok-visit.ensures) refl c.in_ok-give_back.ensures c.in_ok-todo.ensures.steps c.walk.invariant
+    dropping_turn (omega arith) (g.S.CellStore.small c.walk.store) record { goes = sym c.walk-test.ensures; next = cc; here = c.in_ok-contents.ensures.0; behind = cc } (cc) c.in_ok-give_back.ensures c.in_ok-todo.ensures.steps c.walk.invariant
 
 pub returns : goal.returns
 returns g c = dropping_end c.walk.todo c.walk.count (sym c.walk-test.ensures) c.walk.invariant
