@@ -7,29 +7,15 @@ pub fn newline_count(s: &[u8]) -> usize
     ensures value { result ≡ newlines s.now }
     ensures within { result ≤ length s.now }
 {
-    let mut n = 0;
-    for b in s {
-        if *b == b'\n' {
-            n += 1;
-        }
-    }
-    n
+    s.iter().filter(|b| **b == b'\n').count()
 }
 
 // How many bytes follow the last newline.
 pub fn since_newline(s: &[u8]) -> usize
-    ensures value { result ≡ newline_since 0 s.now }
+    ensures value { result ≡ newline_since s.now }
     ensures within { result ≤ length s.now }
 {
-    let mut n = 0;
-    for b in s {
-        if *b == b'\n' {
-            n = 0;
-        } else {
-            n += 1;
-        }
-    }
-    n
+    s.iter().rev().take_while(|b| **b != b'\n').count()
 }
 
 // How many bytes stand before the first newline.
@@ -37,12 +23,7 @@ fn until_newline(s: &[u8]) -> usize
     ensures value { result ≡ newline_until s.now }
     ensures within { result ≤ length s.now }
 {
-    for (n, b) in s.iter().enumerate() {
-        if *b == b'\n' {
-            return n;
-        }
-    }
-    s.len()
+    s.iter().take_while(|b| **b != b'\n').count()
 }
 
 // What stands before the first newline.
@@ -58,11 +39,7 @@ pub fn before(text: &[u8], place: usize) -> &[u8]
     ensures value { result.now ≡ take place text.now }
     ensures within { length result.now ≤ length text.now }
 {
-    if place < text.len() {
-        &text[..place]
-    } else {
-        text
-    }
+    &text[..place.min(text.len())]
 }
 
 // What stands before the place on its line.

@@ -1,19 +1,11 @@
 // A refusal as people read it: where it is, the line that it stands on with a mark under the place, and what to do.
 ghost use Rattle.std.specs.Prelude.{◌≡◌, IfOk, string_bytes};
-ghost use Rattle.explain.specs.Explained.{headed, explained, pointed, explained_with_first};
+ghost use Rattle.explain.specs.Explained.{explained, pointed, explained_with_first};
 
 use super::lines::{lead, line_around};
 use super::position::{Position, position_of};
 use super::rows::{mark_row, shown};
 use std::alloc::{AllocError, Global};
-
-fn heading(heap: Global, number: u8, place: usize, position: Position) -> Result<String, AllocError>
-    ensures { IfOk result (λ t. string_bytes t ≡ headed number place position.line position.column) }
-{
-    let line = position.line;
-    let column = position.column;
-    format!(in heap; "refused {number} at {place}\nline {line}, column {column}\n")
-}
 
 // The refusal with this number at this place of the text, and the advice.
 pub fn explanation(
@@ -25,19 +17,15 @@ pub fn explanation(
 ) -> Result<String, AllocError>
     ensures { IfOk result (λ t. string_bytes t ≡ explained text.now number place advice.now) }
 {
-    let head = heading(heap, number, place, position_of(text, place))?;
-    let source = shown(heap, line_around(text, place))?;
-    let mark = mark_row(heap, lead(text, place))?;
-    format!(in heap; "{head}{source}\n{mark}\n{advice}\n")
+    let pointed = pointed(heap, text, place)?;
+    format!(in heap; "refused {number} at {place}\n{pointed}{advice}\n")
 }
 
 // Where a place of the text is: its line and column, the line around it, and a mark under it.
 pub fn pointed(heap: Global, text: &[u8], place: usize) -> Result<String, AllocError>
     ensures { IfOk result (λ t. string_bytes t ≡ pointed text.now place) }
 {
-    let position = position_of(text, place);
-    let line = position.line;
-    let column = position.column;
+    let Position { line, column } = position_of(text, place);
     let source = shown(heap, line_around(text, place))?;
     let mark = mark_row(heap, lead(text, place))?;
     format!(in heap; "line {line}, column {column}\n{source}\n{mark}\n")

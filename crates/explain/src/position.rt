@@ -4,7 +4,7 @@ ghost use Rattle.explain.specs.Lines.{line_of, column_of};
 
 use super::lines::{before, newline_count, since_newline};
 
-#[derive(Clone, Copy)]
+#[derive(Clone, Copy, Debug, PartialEq, Eq)]
 pub struct Position {
     // from 1
     pub line: usize,
