@@ -1,12 +1,11 @@
 -- When an answer is what a case expects.
-use Rattle.std.specs.Prelude.{◌≡◌, ℕ, ⊤, false, List, Option, Some, None}
+use Rattle.std.specs.Prelude.{◌≡◌, ℕ, ⊤, false, List, Option, Some, None, Ok, Err, Result}
 use Rattle.cases.specs.declared.case.Advance.{Advance}
 use Rattle.cases.specs.declared.case.Close.{Close}
 use Rattle.cases.specs.declared.case.End as told
 use Rattle.cases.specs.declared.case.End.TheVariants as told_end
 use Rattle.cases.specs.declared.case.Fault as told_fault
-use Rattle.cases.specs.declared.case.Verdict.{Verdict}
-use Rattle.cases.specs.declared.case.Verdict.TheVariants as verdict
+use Rattle.cases.specs.declared.case.Refused as told_refusal
 use Rattle.fault_names.specs.FaultNames.{name_of}
 use Rattle.rules.specs.Faults as faults
 use Rattle.rules.specs.declared.answers.Advanced.{Advanced}
@@ -18,11 +17,11 @@ use Rattle.script_refusals.specs.Refusals as refusals
 use Rattle.script_refusals.specs.declared.refusal.Refused.{Refused}
 
 -- accepted, or refused with that number at that place
-abbrev pub VerdictAgrees : Verdict → Option Refused → Type 0
-VerdictAgrees verdict.Accepted None = ⊤
-VerdictAgrees verdict.Accepted (Some r) = ⊥
-VerdictAgrees (verdict.Refused told) None = ⊥
-VerdictAgrees (verdict.Refused told) (Some r) = (told.number ≡ refusals.number_of r.refusal) × (told.place ≡ r.place)
+abbrev pub VerdictAgrees : Result (Unit {0}) told_refusal.Refused → Option Refused → Type 0
+VerdictAgrees (Ok _) None = ⊤
+VerdictAgrees (Ok _) (Some r) = ⊥
+VerdictAgrees (Err told) None = ⊥
+VerdictAgrees (Err told) (Some r) = (told.number ≡ refusals.number_of r.refusal) × (told.place ≡ r.place)
 
 -- the same number and place, and the same name
 abbrev pub FaultAgrees : List ℕ → told_fault.Fault → run_fault.Fault → Type 0

@@ -3,24 +3,17 @@ ghost use Rattle.std.specs.Prelude.{◌≡◌, ◌==◌, ◌↔◌, IsTrue};
 ghost use Rattle.std.specs.Str.{bytes_eq};
 ghost use Rattle.expected.specs.Agreeing.{VerdictAgrees, FaultAgrees, EndAgrees, AdvanceAgrees, CloseAgrees};
 
-use cases::Verdict;
 use fault_names::name_of;
 use rules::{Advanced, Closed};
 use script_refusals::Refused;
 
-fn is_same(a: &[u8], b: &[u8]) -> bool
-    ensures { IsTrue result ↔ (a.now ≡ b.now) }
-{
-    a == b
-}
-
 // A script with this verdict expected was accepted, or refused with a number at a place.
-pub fn verdict_agrees(expected: Verdict, refused: Option<Refused>) -> bool
+pub fn verdict_agrees(expected: Result<(), cases::Refused>, refused: Option<Refused>) -> bool
     ensures { IsTrue result ↔ VerdictAgrees expected refused }
 {
     match (expected, refused) {
-        (Verdict::Accepted, None) => true,
-        (Verdict::Refused(told), Some(refused)) => {
+        (Ok(_), None) => true,
+        (Err(told), Some(refused)) => {
             told.number == u32::from(refused.refusal.number())
                 && told.place as usize == refused.place
         }
@@ -33,7 +26,7 @@ fn fault_agrees(text: &[u8], expected: &cases::Fault<'_>, fault: rules::Fault) -
 {
     expected.number == u32::from(fault.kind.number())
         && expected.place == u32::from(fault.place)
-        && is_same(expected.name, name_of(text, fault.function))
+        && expected.name == name_of(text, fault.function)
 }
 
 fn end_agrees(text: &[u8], expected: &cases::End<'_>, end: rules::End) -> bool
@@ -59,7 +52,7 @@ pub fn advance_agrees(
 {
     end_agrees(text, &expected.end, answer.end)
         && expected.steps == answer.steps
-        && is_same(expected.bytes, written)
+        && expected.bytes == written
 }
 
 pub fn close_agrees(expected: cases::Close, answer: Closed) -> bool

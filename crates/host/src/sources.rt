@@ -18,13 +18,8 @@ fn if_there<F>(opened: io::Result<F>) -> io::Result<Option<F>>
 {
     match opened {
         Ok(file) => Ok(Some(file)),
-        Err(e) => {
-            if e.kind() == ErrorKind::NotFound {
-                Ok(None)
-            } else {
-                Err(e)
-            }
-        }
+        Err(e) if e.kind() == ErrorKind::NotFound => Ok(None),
+        Err(e) => Err(e),
     }
 }
 
