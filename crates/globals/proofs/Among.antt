@@ -1,10 +1,12 @@
 -- Names in lists of names.
-use Rattle.std.proofs.Common.{◌≡◌, ℕ, zero, suc, Bool, true, false, ◌||◌, List, [], ◌∷◌, ◌++◌, reverse, Some, sym, refl, ap, ◌∙◌, arith}
+use Rattle.std.proofs.Common.{◌≡◌, ℕ, zero, suc, Bool, true, false, ◌||◌, List, [], ◌∷◌, ◌++◌, reverse, Some, None, Option, sym, refl, ap, ◌∙◌, arith}
 use Rattle.std.specs.List.{slice_get}
+use Rattle.std.specs.Option.{is_some}
 use Rattle.std.specs.Str.{bytes_eq}
 use Rattle.std.proofs.lemmas.Bool.{or_left, or_right, or_from}
 use Rattle.std.proofs.lemmas.List.{reverse-append}
 use Rattle.std.proofs.lemmas.Slice.Eq.{bytes_eq-Decides}
+use Rattle.names.specs.Indexing.{Finds}
 use Rattle.program.specs.Programs.{Name}
 use Rattle.typing.specs.Verdict.{among_them}
 use Rattle.typing.proofs.TypeRows.{bytes_same}
@@ -24,6 +26,11 @@ among_nothing w (x ∷ xs) n = or_from (bytes_eq w x) (among_them w xs) (go (byt
     go : (b : Bool) → bytes_eq w x ≡ b → bytes_eq w x ≡ false
     go true e = absurd (n zero (ap Some (sym ((bytes_eq-Decides w x).0 e))))
     go false e = e
+
+-- whether a look-up finds a name
+pub among_result : (w : Name) (xs : List Name) (o : Option ℕ) → Finds w xs o → is_some o ≡ among_them w xs
+among_result w xs None f = sym (among_nothing w xs f)
+among_result w xs (Some k) f = sym (among_found w xs k f)
 
 or_assoc : (a b c : Bool) → ((a || b) || c) ≡ (a || (b || c))
 or_assoc true b c = refl

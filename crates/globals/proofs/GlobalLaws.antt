@@ -1,11 +1,11 @@
 -- What a name means in the whole script, by its number among the bound names.
-use Rattle.std.proofs.Common.{◌≡◌, ℕ, zero, suc, false, cond, List, [], ◌∷◌, map, length, take, get_or, Some, None, sym, refl, ap, ◌∙◌, arith}
+use Rattle.std.proofs.Common.{◌≡◌, ℕ, zero, suc, false, cond, List, [], ◌∷◌, map, length, take, get_or, Some, None, Option, MatchOption, sym, refl, ap, ◌∙◌, arith}
 use Rattle.std.specs.List.{slice_get}
 use Rattle.std.specs.Str.{bytes_eq}
 use Rattle.std.proofs.lemmas.Option.{slice_get-map, slice_get_within, get_or_from_slice_get}
 use Rattle.std.proofs.lemmas.List.{length-map, get_or-map, get_or-take}
 use Rattle.basis.specs.Names.{name_of, first_named, named}
-use Rattle.basis.specs.Numbers.{every_function}
+use Rattle.basis.specs.Numbers.{every_function, number_of}
 use Rattle.basis.specs.declared.function.Basis.{Basis}
 use Rattle.globals.specs.Names.{Named}
 use Rattle.globals.specs.Tallies.{bound_names, meaning_of}
@@ -45,7 +45,7 @@ module _ (text : List ℕ) (d : Declarations) (script : Script) (n : Named text 
     pub name : entry.name.bytes ≡ w
     pub first : first_of (λ b. b.name) w P.bound ≡ Some entry
     pub not_basis : named w ≡ None
-    pub meaning : meaning_of (get_or d.meanings k machine.Unbound) ≡ entry.meaning
+    pub meaning : meaning_of (get_or d.meanings k None) ≡ entry.meaning
 
   pub is_bound : (k : ℕ) → Finds w (names_in text d.bound) (Some k) → IsBound k
   is_bound k finds =
@@ -59,10 +59,10 @@ module _ (text : List ℕ) (d : Declarations) (script : Script) (n : Named text 
         name = f.2;
         first = f.3;
         not_basis = bound_not_basis w (bound_names P.bound) k n.bound_once e;
-        meaning = entry_is meaning_of d.meanings (map (λ (b : Bound). b.meaning) P.bound) k f.0.meaning machine.Unbound (ap (λ m. map meaning_of (take m d.meanings)) long ∙ n.meanings) there;
+        meaning = entry_is meaning_of d.meanings (map (λ (b : Bound). b.meaning) P.bound) k f.0.meaning None (ap (λ m. map meaning_of (take m d.meanings)) long ∙ n.meanings) there;
       }
 
-  pub bound_means : (k : ℕ) → Finds w (names_in text d.bound) (Some k) → meaning_of (get_or d.meanings k machine.Unbound) ≡ global_of P w
+  pub bound_means : (k : ℕ) → Finds w (names_in text d.bound) (Some k) → meaning_of (get_or d.meanings k None) ≡ global_of P w
   bound_means k finds =
       let b = is_bound k finds in
       b.meaning ∙ sym (ap (λ o. basis_or o (type_meant (first_of (λ b. b.name) w P.bound))) b.not_basis ∙ ap type_meant b.first)
@@ -73,9 +73,17 @@ module _ (text : List ℕ) (d : Declarations) (script : Script) (n : Named text 
   pub unbound_means : Finds w (names_in text d.bound) None → global_of P w ≡ basis_or (named w) means.unbound
   unbound_means finds = ap (λ o. basis_or (named w) (type_meant o)) (not_bound finds)
 
+-- a name that is bound nowhere is no function's
+pub nothing_named : (m : means.Global) → meaning_of None ≡ m → (n : ℕ) → m ≡ means.function n → ⊥
+nothing_named m e n f = let z : ◌≡◌ {A = ℕ} 0 1 = cc in omega arith
+
+-- a function of the basis goes by its number
+pub basis_means : (o : Option Basis) (r : Option Global) → MatchOption o (r ≡ None) (λ b. r ≡ Some (machine.Function (number_of b))) → meaning_of r ≡ basis_or o means.unbound
+basis_means (Some b) r e = ap meaning_of e
+basis_means None r e = ap meaning_of e
+
 -- what is no function by the machine's word is none
-pub not_function : (g : Global) (m : means.Global) → meaning_of g ≡ m → ((n : ℕ) → g ≡ machine.Function n → ⊥) → (n : ℕ) → m ≡ means.function n → ⊥
+pub not_function : (g : Global) (m : means.Global) → meaning_of (Some g) ≡ m → ((n : ℕ) → g ≡ machine.Function n → ⊥) → (n : ℕ) → m ≡ means.function n → ⊥
 not_function (machine.Function k) m e n k' f = n k refl
 not_function (machine.Constructor k) m e n k' f = let z : ◌≡◌ {A = ℕ} 0 1 = cc in omega arith
 not_function (machine.Val k) m e n k' f = let z : ◌≡◌ {A = ℕ} 0 1 = cc in omega arith
-not_function machine.Unbound m e n k' f = let z : ◌≡◌ {A = ℕ} 0 1 = cc in omega arith

@@ -2,6 +2,7 @@ pub mod Among
 pub mod Tallying
 pub mod Constructors
 pub mod DeclaringLaws
+pub mod Listed
 pub mod Gathering
 pub mod TypeNodes
 pub mod TypeRows

@@ -1,5 +1,5 @@
 -- What was declared up to some place of a script, and how the check keeps it.
-use Rattle.std.specs.Prelude.{◌≡◌, ℕ, ◌+◌, ◌≤◌, List, [], ◌∷◌, ◌++◌, map, reverse, length, take, Ok, Err, Result, IfOk}
+use Rattle.std.specs.Prelude.{◌≡◌, ℕ, ◌+◌, ◌≤◌, List, [], ◌∷◌, ◌++◌, map, reverse, length, take, Some, None, Ok, Err, Option, Result, IfOk}
 use Rattle.globals.specs.Lying.{VariantsLie, DefinitionLies, Few}
 use Rattle.globals.specs.declared.declarations.Declarations.{Declarations}
 use Rattle.globals.specs.declared.global.Global.{Global}
@@ -79,11 +79,11 @@ abbrev pub tallied_all : Counts → Script → Tally → Tally
 tallied_all c [] t = t
 tallied_all c (d ∷ ds) t = tallied_all (after c d) ds (tallied c d t)
 
-abbrev pub meaning_of : Global → means.Global
-meaning_of (machine.Function n) = means.function n
-meaning_of (machine.Constructor k) = means.constructor k
-meaning_of (machine.Val i) = means.val i
-meaning_of machine.Unbound = means.unbound
+abbrev pub meaning_of : Option Global → means.Global
+meaning_of (Some (machine.Function n)) = means.function n
+meaning_of (Some (machine.Constructor k)) = means.constructor k
+meaning_of (Some (machine.Val i)) = means.val i
+meaning_of None = means.unbound
 
 -- The declarations hold a tally.
 pub record Holds (text : List ℕ) (d : Declarations) (t : Tally) : Type 0 where

@@ -6,8 +6,8 @@ use names::Index;
 #[derive(Clone, Copy)]
 pub struct Declarations {
     pub(crate) bound: Index,
-    // what each bound name means
-    pub(crate) meanings: [Global; 512],
+    // what each bound name means; none past the last
+    pub(crate) meanings: [Option<Global>; 512],
     pub(crate) annotations: Index,
     // the type node of each annotation's type
     pub(crate) roots: [u16; 512],

@@ -1,5 +1,5 @@
 // Names are declared one by one, in text order; a name that was declared before in the same tally is refused.
-ghost use Rattle.std.specs.Prelude.{◌≡◌, ℕ, ◌+◌, ◌<◌, ◌≤◌, List, reverse, ◌++◌, length, IfOk, slice_set, slice_index_or, ◌∷◌, []};
+ghost use Rattle.std.specs.Prelude.{◌≡◌, ℕ, ◌+◌, ◌<◌, ◌≤◌, List, reverse, ◌++◌, length, IfOk, Some, slice_index_or, ◌∷◌, []};
 ghost use Rattle.globals.specs.Lying.{VariantLies, Laid};
 ghost use Rattle.globals.specs.Tallies.{Tally, no_tally, tallied_all, seen_bound, seen_annotated, seen_datatypes, also_bound, also_annotated, also_datatype, also_variants, meaning_of, Next, Declared, Holds, told};
 ghost use Rattle.grammar.specs.Trees.{Ident, TypeExpr, Constructor, Script};
@@ -13,9 +13,11 @@ ghost use Rattle.typing.specs.Verdict.{Verdict, accepted, among_them, once, once
 
 use super::declarations::Declarations;
 use super::global::Global;
-use super::tables::{constructor_at, definition_at};
-use super::variant::Variant;
+use super::refusing::refused;
+use super::tables::{constructor_at, definitions};
+use super::variant::{NO_VARIANT, Variant};
 use basis::find;
+use entries::put;
 use layout::{Datatype, Define, Definition, Tables, Val, Word};
 use names::{Index, part};
 use script_refusals::{Refusal, Refused};
@@ -28,20 +30,14 @@ fn is_among(index: &Index, text: &[u8], name: &[u8]) -> bool
     ensures value { IsIndex text.now index.now → result ≡ among_them name.now (names_in text.now index.now) }
     ensures backwards { IsIndex text.now index.now → result ≡ among_them name.now (reverse (names_in text.now index.now)) }
 {
-    match index.find(text, name) {
-        Some(_) => true,
-        None => false,
-    }
+    index.find(text, name).is_some()
 }
 
 // Whether a function of the basis has a name.
 fn is_basis(name: &[u8]) -> bool
     ensures { result ≡ among_them name.now basis_names }
 {
-    match find(name) {
-        Some(_) => true,
-        None => false,
-    }
+    find(name).is_some()
 }
 
 // The same for a tally that the functions of the basis are in beforehand.
@@ -51,56 +47,18 @@ fn is_taken(index: &Index, text: &[u8], name: &[u8]) -> bool
     is_among(index, text, name) || is_basis(name)
 }
 
-// A name that is declared once more, at itself.
-fn repeated(name: Word) -> Refused
-    ensures { result ≡ record { refusal = Refusal.Repeated; place = name.place } }
-{
-    Refused {
-        refusal: Refusal::Repeated,
-        place: name.place as usize,
-    }
-}
-
-// An entry is written; past the end nothing changes.
-fn set_meaning(meanings: &mut [Global; 512], n: usize, meaning: Global)
-    ensures written { meanings.new ≡ slice_set meanings.old n meaning }
-    ensures long { length meanings.new ≡ 512 }
-{
-    if n < 512 {
-        meanings[n] = meaning;
-    }
-}
-
-fn set_root(roots: &mut [u16; 512], n: usize, root: u16)
-    ensures written { roots.new ≡ slice_set roots.old n root }
-    ensures long { length roots.new ≡ 512 }
-{
-    if n < 512 {
-        roots[n] = root;
-    }
-}
-
-fn set_variant(variants: &mut [Variant; 256], n: usize, variant: Variant)
-    ensures written { variants.new ≡ slice_set variants.old n variant }
-    ensures long { length variants.new ≡ 256 }
-{
-    if n < 256 {
-        variants[n] = variant;
-    }
-}
-
 impl Declarations {
     // A bound name: of a constructor, a define or a val.
     fn bind(&mut self, text: &[u8], name: Word, meaning: Global) -> Result<(), Refused>
         ensures told { (t : Tally) (x : Ident) (next : Verdict) → Holds text.now self.old t → Spells text.now name x → once x (seen_bound t) next ≡ told result next }
-        ensures holds { (t : Tally) (x : Ident) → Holds text.now self.old t → Spells text.now name x → length t.bound < 512 → IfOk result (λ _. Holds text.now self.new (also_bound x (meaning_of meaning) t)) }
+        ensures holds { (t : Tally) (x : Ident) → Holds text.now self.old t → Spells text.now name x → length t.bound < 512 → IfOk result (λ _. Holds text.now self.new (also_bound x (meaning_of (Some meaning)) t)) }
     {
         let bytes = part(text, name);
         if is_taken(&self.bound, text, bytes) {
-            return Err(repeated(name));
+            return Err(refused(Refusal::Repeated, name.place));
         }
         let n = self.bound.count();
-        set_meaning(&mut self.meanings, n, meaning);
+        put(&mut self.meanings, n, Some(meaning));
         self.bound.add(text, name);
         Ok(())
     }
@@ -112,10 +70,10 @@ impl Declarations {
     {
         let bytes = part(text, name);
         if is_taken(&self.annotations, text, bytes) {
-            return Err(repeated(name));
+            return Err(refused(Refusal::Repeated, name.place));
         }
         let n = self.annotations.count();
-        set_root(&mut self.roots, n, root);
+        put(&mut self.roots, n, root);
         self.annotations.add(text, name);
         Ok(())
     }
@@ -126,7 +84,7 @@ impl Declarations {
         ensures holds { (t : Tally) (x : Ident) → Holds text.now self.old t → Spells text.now name x → length t.datatypes < 512 → IfOk result (λ _. Holds text.now self.new (also_datatype x t)) }
     {
         if is_among(&self.datatypes, text, part(text, name)) {
-            return Err(repeated(name));
+            return Err(refused(Refusal::Repeated, name.place));
         }
         self.datatypes.add(text, name);
         Ok(())
@@ -144,16 +102,14 @@ impl Declarations {
         ensures holds { (t : Tally) (k : ℕ) (x : Constructor) → Holds text.now self.old t → VariantLies text.now tables.now (slice_index_or tables.now.constructors i unused_constructor) k x → length t.variants ≡ i → i < 256 → length t.bound < 512 → IfOk result (λ _. Holds text.now self.new (also_variants datatype i k (x ∷ []) t)) }
     {
         let entry = constructor_at(tables, i as usize);
-        if let Err(refused) = self.bind(text, entry.name, Global::Constructor(i)) {
-            return Err(refused);
-        }
+        self.bind(text, entry.name, Global::Constructor(i))?;
         let variant = Variant {
             datatype,
             first: entry.first,
             past: entry.past,
             fields: entry.fields,
         };
-        set_variant(&mut self.variants, i as usize, variant);
+        put(&mut self.variants, i as usize, variant);
         Ok(())
     }
 
@@ -170,9 +126,7 @@ impl Declarations {
         ensures holds { (t : Tally) (k : ℕ) (cs : List Constructor) → Holds text.now self.old t → Next text.now tables.now t first past k cs → IfOk result (λ _. Holds text.now self.new (also_variants datatype first k cs t)) }
     {
         'each: for i in first..past {
-            if let Err(refused) = self.constructor(text, tables, datatype, i) {
-                return Err(refused);
-            }
+            self.constructor(text, tables, datatype, i)?;
         }
         Ok(())
     }
@@ -182,9 +136,7 @@ impl Declarations {
         ensures { Declared text.now tables.now (Definition.Datatype datatype) self.old result self.new }
     {
         let number = self.datatypes.count() as u16;
-        if let Err(refused) = self.name_datatype(text, datatype.name) {
-            return Err(refused);
-        }
+        self.name_datatype(text, datatype.name)?;
         self.constructors(text, tables, number, datatype.first, datatype.past)
     }
 
@@ -193,9 +145,7 @@ impl Declarations {
         ensures { Declared text.now tables.now (Definition.Define define) self.old result self.new }
     {
         let number = self.functions;
-        if let Err(refused) = self.bind(text, define.name, Global::Function(number)) {
-            return Err(refused);
-        }
+        self.bind(text, define.name, Global::Function(number))?;
         self.functions = number.saturating_add(1);
         Ok(())
     }
@@ -205,9 +155,7 @@ impl Declarations {
         ensures { Declared text.now tables.now (Definition.Val val) self.old result self.new }
     {
         let number = self.vals;
-        if let Err(refused) = self.bind(text, val.name, Global::Val(number)) {
-            return Err(refused);
-        }
+        self.bind(text, val.name, Global::Val(number))?;
         self.vals = number.saturating_add(1);
         Ok(())
     }
@@ -240,16 +188,11 @@ impl Declarations {
     {
         Declarations {
             bound: Index::new(),
-            meanings: [Global::Unbound; 512],
+            meanings: [None; 512],
             annotations: Index::new(),
             roots: [0; 512],
             datatypes: Index::new(),
-            variants: [Variant {
-                datatype: 0,
-                first: 0,
-                past: 0,
-                fields: 0,
-            }; 256],
+            variants: [NO_VARIANT; 256],
             functions: FIRST_DEFINE,
             vals: 0,
         }
@@ -261,11 +204,8 @@ impl Declarations {
         ensures holds { (script : Script) → Laid text.now tables.now script → IfOk result (λ d. Holds text.now d (tallied_all none script no_tally)) }
     {
         let mut declared = Declarations::new();
-        let count = tables.counts.definitions;
-        for k in 0..count {
-            if let Err(refused) = declared.declare(text, tables, definition_at(tables, k)) {
-                return Err(refused);
-            }
+        for &definition in definitions(tables) {
+            declared.declare(text, tables, definition)?;
         }
         Ok(declared)
     }

@@ -1,5 +1,5 @@
 // Each annotation has a define, and each define an annotation, whose type is the define's.
-ghost use Rattle.std.specs.Prelude.{◌≡◌, ◌+◌, ◌<◌, ◌≤◌, length, IfOk, slice_set};
+ghost use Rattle.std.specs.Prelude.{◌≡◌, ◌+◌, ◌<◌, ◌≤◌, length, IfOk};
 ghost use Rattle.globals.specs.Lying.{DefinitionLies, Laid};
 ghost use Rattle.globals.specs.Names.{Named};
 ghost use Rattle.globals.specs.Pairs.{HasType, PairsOne, ArePaired};
@@ -15,34 +15,13 @@ ghost use Rattle.typing.specs.Verdict.{accepted, found};
 
 use super::declarations::Declarations;
 use super::define_types::DefineTypes;
-use super::tables::definition_at;
+use super::refusing::refused;
+use super::tables::definitions;
+use entries::put;
 use layout::{Definition, Tables, Word};
 use names::part;
 use script_refusals::{Refusal, Refused};
 use type_rows::{Rows, ValueType};
-
-// The most definitions.
-const DEFINITIONS: usize = 832;
-
-// A define or an annotation that lacks the other, at its name.
-fn unpaired(name: Word) -> Refused
-    ensures { result ≡ record { refusal = Refusal.Unpaired; place = name.place } }
-{
-    Refused {
-        refusal: Refusal::Unpaired,
-        place: name.place as usize,
-    }
-}
-
-// A type is written; past the end nothing changes.
-fn set_type(types: &mut [ValueType; 256], n: usize, kind: ValueType)
-    ensures written { types.new ≡ slice_set types.old n kind }
-    ensures long { length types.new ≡ 256 }
-{
-    if n < 256 {
-        types[n] = kind;
-    }
-}
 
 // The type that a define's name is annotated with.
 fn define_type(
@@ -54,10 +33,10 @@ fn define_type(
     ensures { (script : Script) (x : Ident) → Named text.now declared.now script → HasRows (program script) (types_listed script) rows.now.rows → length (types_listed script) ≤ 512 → Spells text.now name x
         → HasType (program script) (meaning (program script) (types_listed script)) rows.now.rows x result }
 {
-    match declared.annotation(text, part(text, name)) {
-        Some(root) => Ok(rows.kind(root)),
-        None => Err(unpaired(name)),
-    }
+    let root = declared
+        .annotation(text, part(text, name))
+        .ok_or(refused(Refusal::Unpaired, name.place))?;
+    Ok(rows.kind(root))
 }
 
 // The define of an annotation's name has to be there.
@@ -67,7 +46,7 @@ fn need_define(text: &[u8], declared: &Declarations, name: Word) -> Result<(), R
     if declared.has_define(text, part(text, name)) {
         return Ok(());
     }
-    Err(unpaired(name))
+    Err(refused(Refusal::Unpaired, name.place))
 }
 
 // One definition, behind so many defines: how many there are then.
@@ -85,17 +64,15 @@ fn pair_one(
         → PairsOne (program script) (meaning (program script) (types_listed script)) rows.now.rows defines d types.old.types result types.new.types }
 {
     match definition {
-        Definition::Annotation(annotation) => match need_define(text, declared, annotation.name) {
-            Ok(()) => Ok(defines),
-            Err(refused) => Err(refused),
-        },
-        Definition::Define(define) => match define_type(text, declared, rows, define.name) {
-            Ok(kind) => {
-                set_type(&mut types.types, defines, kind);
-                Ok(defines + 1)
-            }
-            Err(refused) => Err(refused),
-        },
+        Definition::Annotation(annotation) => {
+            need_define(text, declared, annotation.name)?;
+            Ok(defines)
+        }
+        Definition::Define(define) => {
+            let kind = define_type(text, declared, rows, define.name)?;
+            put(&mut types.types, defines, kind);
+            Ok(defines + 1)
+        }
         _ => Ok(defines),
     }
 }
@@ -114,19 +91,8 @@ pub(crate) fn pair(
         types: [ValueType::Unit; 256],
     };
     let mut defines: usize = 0;
-    let count = tables.counts.definitions.min(DEFINITIONS);
-    for k in 0..count {
-        match pair_one(
-            text,
-            declared,
-            rows,
-            definition_at(tables, k),
-            &mut types,
-            defines,
-        ) {
-            Ok(more) => defines = more,
-            Err(refused) => return Err(refused),
-        }
+    for &definition in definitions(tables) {
+        defines = pair_one(text, declared, rows, definition, &mut types, defines)?;
     }
     Ok(types)
 }

@@ -7,6 +7,7 @@ ghost use Rattle.program.specs.Programs.{Program};
 ghost use Rattle.type_rows.specs.TypeExprs.{types_listed, row_of_result, expr_at};
 
 use super::declarations::Declarations;
+use super::refusing::refused;
 use super::tables::type_at;
 use layout::{Tables, TypeForm, Word};
 use names::part;
@@ -16,7 +17,8 @@ use type_rows::{Row, Rows, Shape};
 // The most type expressions.
 const TYPES: usize = 512;
 
-// The parts of a function type: how many parameters it has, and the row of its result type.
+// The parts of a function type: how many parameters it has, and the row of its result type. (A walk from part to part, whose last place and
+// count are both wanted: an iterator over the places would give one of them.)
 #[derive(Clone, Copy)]
 struct Parts {
     count: u16,
@@ -53,16 +55,6 @@ fn parts_of(tables: &Tables, k: usize) -> Parts
     }
 }
 
-// A name that is no datatype's, at itself.
-fn unknown(place: u16) -> Refused
-    ensures { result ≡ record { refusal = Refusal.Unknown; place = place } }
-{
-    Refused {
-        refusal: Refusal::Unknown,
-        place: place as usize,
-    }
-}
-
 // The shape of the type expression at a type node.
 fn shape_of(
     text: &[u8],
@@ -84,10 +76,11 @@ fn shape_of(
                 place: node.place,
                 size,
             };
-            match declared.datatypes.find(text, part(text, name)) {
-                Some(number) => Ok(Shape::Datatype(number as u16)),
-                None => Err(unknown(node.place)),
-            }
+            let number = declared
+                .datatypes
+                .find(text, part(text, name))
+                .ok_or(refused(Refusal::Unknown, node.place))?;
+            Ok(Shape::Datatype(number as u16))
         }
         TypeForm::Function => Ok(Shape::Function(parts_of(tables, k).count)),
         TypeForm::Unused => Ok(Shape::Unit),
@@ -116,17 +109,12 @@ pub(crate) fn resolve(
     let mut rows = Rows::new();
     let count = tables.counts.types.min(TYPES);
     for k in 0..count {
-        match shape_of(text, tables, declared, k) {
-            Ok(shape) => {
-                let row = Row {
-                    shape,
-                    past: type_at(tables, k).past,
-                    result: result_row(tables, k),
-                };
-                rows.put(k, row);
-            }
-            Err(refused) => return Err(refused),
-        }
+        let row = Row {
+            shape: shape_of(text, tables, declared, k)?,
+            past: type_at(tables, k).past,
+            result: result_row(tables, k),
+        };
+        rows.put(k, row);
     }
     Ok(rows)
 }

@@ -1,48 +1,45 @@
 // What stands in the tables of a script that was read; past their ends, entries that nothing uses.
-ghost use Rattle.std.specs.Prelude.{◌≡◌, slice_index_or};
+ghost use Rattle.std.specs.Prelude.{◌≡◌, min, length, take, slice_index_or};
 ghost use Rattle.layout.specs.Tabling.{unused_constructor};
 ghost use Rattle.layout.specs.TypeEncoding.{unused_type};
-ghost use Rattle.layout.specs.declared.definition.Definition.TheVariants as definition;
 
 use layout::{Constructor, Definition, Tables, TypeForm, TypeNode, Word};
 
-pub(crate) fn definition_at(tables: &Tables, k: usize) -> Definition
-    ensures { result ≡ slice_index_or tables.now.definitions k definition.Unused }
+const UNUSED_CONSTRUCTOR: Constructor = Constructor {
+    place: 0,
+    name: Word { place: 0, size: 0 },
+    datatype: 0,
+    first: 0,
+    past: 0,
+    fields: 0,
+};
+
+const UNUSED_TYPE: TypeNode = TypeNode {
+    form: TypeForm::Unused,
+    place: 0,
+    past: 0,
+};
+
+// The definitions in text order.
+pub(crate) fn definitions(tables: &Tables) -> &[Definition]
+    ensures items { result.now ≡ take (min tables.now.counts.definitions 832) tables.now.definitions }
+    ensures many { length result.now ≡ min tables.now.counts.definitions 832 }
 {
-    let entries = &tables.definitions[..];
-    if k < entries.len() {
-        return entries[k];
-    }
-    Definition::Unused
+    &tables.definitions[..tables.counts.definitions.min(832)]
 }
 
 pub(crate) fn constructor_at(tables: &Tables, k: usize) -> Constructor
     ensures { result ≡ slice_index_or tables.now.constructors k unused_constructor }
 {
-    let entries = &tables.constructors[..];
-    if k < entries.len() {
-        return entries[k];
-    }
-    Constructor {
-        place: 0,
-        name: Word { place: 0, size: 0 },
-        datatype: 0,
-        first: 0,
-        past: 0,
-        fields: 0,
-    }
+    tables
+        .constructors
+        .get(k)
+        .copied()
+        .unwrap_or(UNUSED_CONSTRUCTOR)
 }
 
 pub(crate) fn type_at(tables: &Tables, k: usize) -> TypeNode
     ensures { result ≡ slice_index_or tables.now.types k unused_type }
 {
-    let entries = &tables.types[..];
-    if k < entries.len() {
-        return entries[k];
-    }
-    TypeNode {
-        form: TypeForm::Unused,
-        place: 0,
-        past: 0,
-    }
+    tables.types.get(k).copied().unwrap_or(UNUSED_TYPE)
 }

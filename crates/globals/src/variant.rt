@@ -1,5 +1,5 @@
 // A constructor, as the check needs it.
-#[derive(Clone, Copy)]
+#[derive(Clone, Copy, PartialEq, Eq)]
 pub struct Variant {
     // the number of its datatype
     pub datatype: u16,
@@ -9,3 +9,11 @@ pub struct Variant {
     // how many fields it has
     pub fields: u8,
 }
+
+// What is read where there is no constructor.
+pub(crate) const NO_VARIANT: Variant = Variant {
+    datatype: 0,
+    first: 0,
+    past: 0,
+    fields: 0,
+};

@@ -15,7 +15,7 @@ use super::define_types::DefineTypes;
 use super::global::Global;
 use super::pairing::pair;
 use super::resolving::resolve;
-use super::variant::Variant;
+use super::variant::{NO_VARIANT, Variant};
 use basis::Basis;
 use layout::Tables;
 use script_refusals::{Refusal, Refused};
@@ -29,12 +29,11 @@ pub struct Globals {
 }
 
 impl Globals {
-    // What a name means where no local has it.
-    pub fn named(&self, text: &[u8], name: &[u8]) -> Global
+    // What a name means where no local has it; nothing, if it is bound nowhere.
+    pub fn named(&self, text: &[u8], name: &[u8]) -> Option<Global>
         ensures { (script : Script) → Known text.now self.now script → meaning_of result ≡ global_of (program script) name.now }
     {
-        let declared = &self.declared;
-        declared.named(text, name)
+        self.declared.named(text, name)
     }
 
     // The table of types.
@@ -48,36 +47,23 @@ impl Globals {
     fn define_type(&self, j: usize) -> ValueType
         ensures { result ≡ slice_index_or self.now.types.types j value.Unit }
     {
-        let types = &self.types.types[..];
-        if j < types.len() {
-            return types[j];
-        }
-        ValueType::Unit
+        self.types.types.get(j).copied().unwrap_or(ValueType::Unit)
     }
 
     // The type of the function with a number.
     pub fn function_type(&self, n: u16) -> ValueType
         ensures { (text : List ℕ) (script : Script) (w : Name) → Known text self.now script → global_of (program script) w ≡ means.function n → FunctionIs script self.now.rows.rows n result }
     {
-        match Basis::from_number(n as u32) {
-            Some(basis) => basis_type(basis),
-            None => self.define_type((n as usize).saturating_sub(33)),
+        match Basis::try_from(n as u32) {
+            Ok(basis) => basis_type(basis),
+            Err(_) => self.define_type((n as usize).saturating_sub(33)),
         }
     }
 
     fn variant_at(&self, k: usize) -> Variant
         ensures { result ≡ slice_index_or self.now.declared.variants k no_variant }
     {
-        let variants = &self.declared.variants[..];
-        if k < variants.len() {
-            return variants[k];
-        }
-        Variant {
-            datatype: 0,
-            first: 0,
-            past: 0,
-            fields: 0,
-        }
+        self.declared.variants.get(k).copied().unwrap_or(NO_VARIANT)
     }
 
     // The constructor with a number.
@@ -91,11 +77,13 @@ impl Globals {
     fn has_main(&self, text: &[u8]) -> bool
         ensures { (script : Script) → Known text.now self.now script → told_main (main_stands (program script) (first_of (λ d. d.name) (codes "main") (program script).defines)) result }
     {
-        match self.named(text, b"main") {
-            Global::Function(n) => {
-                let rows = &self.rows;
-                rows.same(self.function_type(n), basis_type(Basis::PrintNewline))
-            }
+        let Some(main) = self.named(text, b"main") else {
+            return false;
+        };
+        match main {
+            Global::Function(n) => self
+                .rows
+                .same(self.function_type(n), basis_type(Basis::PrintNewline)),
             _ => false,
         }
     }

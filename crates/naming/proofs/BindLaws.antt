@@ -1,9 +1,13 @@
 -- Names that are bound.
-use Rattle.std.proofs.Common.{◌≡◌, ℕ, ◌+◌, ◌<◌, ◌≤◌, Bool, true, false, cond, ◌&&◌, List, ◌∷◌, length, None, Option, slice_set, sym, refl, ap, ◌∙◌, subst, arith, length-set}
+use Rattle.std.proofs.Common.{◌≡◌, ℕ, ◌+◌, ◌<◌, ◌≤◌, Bool, true, false, cond, ◌&&◌, List, ◌∷◌, length, Some, None, Option, slice_set, sym, refl, ap, ◌∙◌, subst, arith, length-set}
 use Rattle.std.proofs.lemmas.Bool.{lt-ltb, le-ltb}
 use Rattle.std.proofs.lemmas.List.{get_or-set_same}
+use Rattle.std.specs.Option.{is_some, is_none}
 use Rattle.std.specs.Prelude.{nat_lt}
 use Rattle.globals.specs.Known.{meaning_in}
+use Rattle.globals.specs.Tallies.{meaning_of}
+use Rattle.globals.specs.declared.global.Global.{Global}
+use Rattle.globals.specs.declared.global.Global.TheVariants as machine
 use Rattle.grammar.specs.Trees.{Ident, Script}
 use Rattle.layout.specs.Spelling.{Spells}
 use Rattle.layout.specs.declared.word.Word.{Word}
@@ -26,6 +30,22 @@ use Rattle.type_rows.specs.declared.value_type.ValueType.{ValueType}
 use Rattle.typing.specs.Contexts.{Local as LocalName, local, Context}
 use Rattle.typing.specs.Judging.{Judged, refused, is_fresh, is_absent, is_unbound, bind_name}
 
+-- whether a local has a name
+pub some_local : (text : List ℕ) (locals : List Local) (w : List ℕ) (n : ℕ) (o : Option ℕ) → FindsLocal text locals w n o → is_some o ≡ true → (k : ℕ) × Newest text locals w n k
+some_local text locals w n None f e = absurd (let z : ◌≡◌ {A = ℕ} 0 1 = cc in omega arith)
+some_local text locals w n (Some k) f e = (k, f)
+
+pub no_local_has : (text : List ℕ) (locals : List Local) (w : List ℕ) (n : ℕ) (o : Option ℕ) → FindsLocal text locals w n o → is_some o ≡ false → FindsLocal text locals w n None
+no_local_has text locals w n None f e = f
+no_local_has text locals w n (Some k) f e = absurd (let z : ◌≡◌ {A = ℕ} 0 1 = cc in omega arith)
+
+-- whether a name is bound in the whole script
+unbound_by : (g : Option Global) → is_none g ≡ is_unbound (meaning_of g)
+unbound_by None = refl
+unbound_by (Some (machine.Function n)) = refl
+unbound_by (Some (machine.Constructor k)) = refl
+unbound_by (Some (machine.Val i)) = refl
+
 module _ (world : World) (script : Script) where
   -- a name that is new
   pub fresh_local : (locals : List Local) (marks : List Bool) (w : List ℕ) (n k : ℕ) → Newest (text_of world script) locals w n k → is_fresh (program script) w (context (text_of world script) (meaning_in script) locals marks n) ≡ false
@@ -35,6 +55,12 @@ module _ (world : World) (script : Script) where
       → is_fresh (program script) w (context (text_of world script) (meaning_in script) locals marks n) ≡ is_unbound g
   fresh_global locals marks w n g f e =
       ap (λ (o : Option LocalName). is_absent o && is_unbound (global_of (program script) w)) (look_none (text_of world script) (meaning_in script) locals marks w n f) ∙ ap is_unbound e
+
+  -- whether a name is new, by what was found
+  pub fresh_found : (locals : List Local) (marks : List Bool) (w : List ℕ) (n : ℕ) (o : Option ℕ) (g : Option Global) → FindsLocal (text_of world script) locals w n o → meaning_of g ≡ global_of (program script) w
+      → (is_none o && is_none g) ≡ is_fresh (program script) w (context (text_of world script) (meaning_in script) locals marks n)
+  fresh_found locals marks w n (Some k) g f e = sym (fresh_local locals marks w n k f)
+  fresh_found locals marks w n None g f e = unbound_by g ∙ sym (fresh_global locals marks w n (meaning_of g) f (sym e))
 
   -- a name is bound, with so many entries below it
   module _ (set : Setting world script) (old : Desk) (ready : Ready world script old) (word : Word) (kind : ValueType) (height : ℕ) (x : Ident) (spells : Spells (text_of world script) word x) where

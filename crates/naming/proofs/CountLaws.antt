@@ -1,8 +1,8 @@
 -- The parts of a pattern, counted.
-use Rattle.std.proofs.Common.{◌≡◌, ℕ, ◌+◌, List, [], ◌∷◌, length, arith}
-use Rattle.grammar.specs.Trees.{PatternPart, bound, skipped}
+use Rattle.std.proofs.Common.{◌≡◌, ℕ, ◌+◌, List, [], ◌∷◌, length, Some, None, arith}
+use Rattle.grammar.specs.Trees.{PatternPart}
 use Rattle.patterns.specs.Parts.{PartsAt, IsPart}
-use Rattle.patterns.specs.declared.part.Part.TheVariants as part
+use Rattle.patterns.specs.declared.part.Part.{Part}
 
 -- some parts were counted, and others are left from a place on
 pub record Counting (text : List ℕ) (at count : ℕ) (xs : List PatternPart) : Type 0 where
@@ -15,17 +15,10 @@ module _ (text : List ℕ) (at count : ℕ) (xs : List PatternPart) (c : Countin
   counting_start s = record { left = xs; stand = s; all = omega arith }
 
 module _ (text : List ℕ) (count : ℕ) (all : List PatternPart) where
-  pub counting_bound : (xs : List PatternPart) (w : _) (after : ℕ) → length all ≡ count + length xs → IsPart text xs (part.Bound w after) → Counting text after (count + 1) all
-  counting_bound [] w after e at = absurd at
-  counting_bound (bound x ∷ xs) w after e at = record { left = xs; stand = at.1; all = omega arith }
-  counting_bound (skipped p ∷ xs) w after e at = absurd at
+  pub counting_part : (xs : List PatternPart) (part : Part) → length all ≡ count + length xs → IsPart text xs (Some part) → Counting text part.after (count + 1) all
+  counting_part [] part e at = absurd at
+  counting_part (x ∷ xs) part e at = record { left = xs; stand = at.1; all = omega arith }
 
-  pub counting_skipped : (xs : List PatternPart) (after : ℕ) → length all ≡ count + length xs → IsPart text xs (part.Skipped after) → Counting text after (count + 1) all
-  counting_skipped [] after e at = absurd at
-  counting_skipped (bound x ∷ xs) after e at = absurd at
-  counting_skipped (skipped p ∷ xs) after e at = record { left = xs; stand = at; all = omega arith }
-
-  pub counting_end : (xs : List PatternPart) → length all ≡ count + length xs → IsPart text xs part.End → count ≡ length all
+  pub counting_end : (xs : List PatternPart) → length all ≡ count + length xs → IsPart text xs None → count ≡ length all
   counting_end [] e at = omega arith
-  counting_end (bound x ∷ xs) e at = absurd at
-  counting_end (skipped p ∷ xs) e at = absurd at
+  counting_end (x ∷ xs) e at = absurd at

@@ -1,11 +1,14 @@
 -- Names that are entered or dupped.
 use Rattle.std.proofs.Common.{◌≡◌, ℕ, ◌+◌, ◌-◌, ◌≤◌, Bool, true, false, cond, List, length, Some, None, Ok, Err, Option, Result, slice_set, sym, refl, ap, ◌∙◌, subst, arith}
 use Rattle.std.specs.List.{slice_get}
-use Rattle.std.specs.Prelude.{slice_index_or}
+use Rattle.std.specs.Prelude.{nat_lt, slice_index_or}
+use Rattle.std.proofs.lemmas.Bool.{ltb-true, ltb-false}
+use Rattle.std.proofs.lemmas.List.{get_or_past}
 use Rattle.globals.specs.Known.{FunctionIs}
 use Rattle.grammar.specs.Trees.{Ident, Expr, Script}
 use Rattle.grammar.specs.Reading.{ident}
 use Rattle.layout.specs.Decoding.{node_found, c_name, c_dup}
+use Rattle.layout.specs.Encoding.{unused}
 use Rattle.layout.specs.Spelling.{Spells}
 use Rattle.layout.specs.Words.{word_at}
 use Rattle.layout.specs.declared.node.Node.{Node}
@@ -33,6 +36,14 @@ use Rattle.script_refusals.specs.declared.refusal.Refused.{Refused}
 use Rattle.type_rows.specs.declared.value_type.ValueType.{ValueType}
 use Rattle.typing.specs.Contexts.{Local, local, Context, local_named, consume}
 use Rattle.typing.specs.Judging.{refused, judged, entered, enter_local, enter_global, known, dup_local, dup_global, judge, judge_name, judge_dup}
+
+-- a node that is one part and no more is one of the nodes, which are few
+node_low : (ns : List Node) (i : ℕ) → length ns ≤ 4096 → (node_found ns i).past ≡ i + 1 → i ≤ 65000
+node_low ns i few past = go (nat_lt i (length ns)) refl
+  where
+    go : (b : Bool) → nat_lt i (length ns) ≡ b → i ≤ 65000
+    go true e = let low = ltb-true i (length ns) e in omega arith
+    go false e = let none = ap (λ (n : Node). n.past) (get_or_past ns i unused (ltb-false i (length ns) e)) in absurd (omega arith)
 
 module _ (world : World) (script : Script) (set : Setting world script) where
   -- What a global name means.
@@ -119,10 +130,10 @@ module _ (world : World) (script : Script) (set : Setting world script) where
           entering p w _ (found_at w k f' true m) ∙ ap (λ p. refused (refused_at refusal.Consumed p)) (sym (ap (λ (n : Node). n.place) is ∙ place)) ∙ ap refused (sym e)
 
       pub name_local : (k height d : ℕ) (codes after : List Code) (l : LocalCode) (new : Desk) {e : Expr} → Coded world script (form.Name size) e i → Newest (text_of world script) old.locals name old.depth k
-          → marked k ≡ false → l ≡ local_in old.locals k → (height ≤ 65536 → d ≡ height - 1 - l.height) → i ≤ 65000
+          → marked k ≡ false → l ≡ local_in old.locals k → (height ≤ 65536 → d ≡ height - 1 - l.height)
           → after ≡ slice_set codes i (code (op.Local d) node.place node.past) → new ≡ record old { marks = cond (datatype_kind l.kind) (slice_set old.marks k true) old.marks }
           → ExprAnswers world script e i height old codes (Ok l.kind) new after
-      name_local k height d codes after l new {e} c f m el far_is low s en =
+      name_local k height d codes after l new {e} c f m el far_is s en =
           subst (λ n. ExprAnswers world script e i height old codes (Ok l.kind) n after) (sym en)
           (subst (λ l. ExprAnswers world script e i height old codes (Ok l.kind) (record old { marks = cond (datatype_kind l.kind) (slice_set old.marks k true) old.marks }) after) (sym el)
           (go c f))
@@ -130,6 +141,7 @@ module _ (world : World) (script : Script) (set : Setting world script) where
           go : {e : Expr} → Coded world script (form.Name size) e i → Newest (text_of world script) old.locals name old.depth k → ExprAnswers world script e i height old codes (Ok (local_in old.locals k).kind) (entered_desk k) after
           go (c_name {p = p} {w = w} place past spells) f =
               let f' = subst (λ w. Newest (text_of world script) old.locals w old.depth k) (word_is place spells) f in
+              let low = node_low world.nodes.now i set.few past in
               let far_here : height ≤ 65536 → d ≡ height - 1 - (local_in old.locals k).height = λ h. far_is h ∙ ap (λ (l : LocalCode). height - 1 - l.height) el in
               record {
                 type = entering p w _ (found_at w k f' false m) ∙ ap (judged (meant world script (local_in old.locals k).kind)) (entered_names w k f');
@@ -175,14 +187,15 @@ module _ (world : World) (script : Script) (set : Setting world script) where
           dupping p x.place x.bytes _ (found_at x.bytes k f' true m) ∙ ap (λ p. refused (refused_at refusal.Consumed p)) (sym spells.place_is) ∙ ap refused (sym e)
 
       pub dup_local_rule : (k height d : ℕ) (codes after : List Code) (l : LocalCode) {e : Expr} → Coded world script (form.Dup word) e i → Newest (text_of world script) old.locals name old.depth k
-          → marked k ≡ false → l ≡ local_in old.locals k → (height ≤ 65536 → d ≡ height - 1 - l.height) → i ≤ 65000
+          → marked k ≡ false → l ≡ local_in old.locals k → (height ≤ 65536 → d ≡ height - 1 - l.height)
           → after ≡ slice_set codes i (code (op.Dup d) node.place node.past) → ExprAnswers world script e i height old codes (Ok l.kind) old after
-      dup_local_rule k height d codes after l {e} c f m el far_is low s =
+      dup_local_rule k height d codes after l {e} c f m el far_is s =
           subst (λ l. ExprAnswers world script e i height old codes (Ok l.kind) old after) (sym el) (go c f)
         where
           go : {e : Expr} → Coded world script (form.Dup word) e i → Newest (text_of world script) old.locals name old.depth k → ExprAnswers world script e i height old codes (Ok (local_in old.locals k).kind) old after
           go (c_dup {p = p} {x = x} place past spells) f =
               let f' = subst (λ w. Newest (text_of world script) old.locals w old.depth k) (dup_name spells) f in
+              let low = node_low world.nodes.now i set.few past in
               let far_here : height ≤ 65536 → d ≡ height - 1 - (local_in old.locals k).height = λ h. far_is h ∙ ap (λ (l : LocalCode). height - 1 - l.height) el in
               record {
                 type = dupping p x.place x.bytes _ (found_at x.bytes k f' false m);

@@ -17,7 +17,7 @@ use Rattle.naming.specs.Binding.{HeadAnswers, MatchesAnswers, OnParts, OnConstru
 use Rattle.naming.specs.Judges.{Desk, Setting, Ready, names, vals_of, rows_of, text_of}
 use Rattle.naming.specs.declared.world.World.{World}
 use Rattle.patterns.specs.Parts.{PartsAt, IsHead}
-use Rattle.patterns.specs.declared.head.Head.TheVariants as head
+use Rattle.patterns.specs.declared.head.Head.{Head}
 use Rattle.program.specs.Compiling.{code, head_op, branch_op}
 use Rattle.program.specs.Programs as means
 use Rattle.program.specs.Programs.{Program, Variant, program, global_of, variants, variants_from}
@@ -133,12 +133,12 @@ module _ (world : World) (script : Script) (set : Setting world script) (old : D
             }
 
   -- whatever the pattern is
-  pub matched_wildcard : (x : Pattern) → IsHead (text_of world script) x head.Wildcard → (node : Node) (after : List Code) → node ≡ node_found world.nodes.now i → after ≡ slice_set codes i (code op.Any node.place node.past) → MatchesAnswers world script d x i height old codes (Ok tt) old after
+  pub matched_wildcard : (x : Pattern) → IsHead (text_of world script) x None → (node : Node) (after : List Code) → node ≡ node_found world.nodes.now i → after ≡ slice_set codes i (code op.Any node.place node.past) → MatchesAnswers world script d x i height old codes (Ok tt) old after
   matched_wildcard (wildcard p) at node after is s = matched_any p node after is s
   matched_wildcard (constructor p c xs) at node after is s = absurd at
 
-  pub matched_by : (x : Pattern) (place inside : ℕ) (w : Word) → IsHead (text_of world script) x (head.Constructor place w inside) → (result : Result (Unit {0}) Refused) (new : Desk) (after : List Code)
-      → OnConstructor world i place w inside d height old codes result new after → MatchesAnswers world script d x i height old codes result new after
-  matched_by (wildcard p) place inside w at result new after f = absurd at
-  matched_by (constructor p c xs) place inside w at result new after f =
+  pub matched_by : (x : Pattern) (head : Head) → IsHead (text_of world script) x (Some head) → (result : Result (Unit {0}) Refused) (new : Desk) (after : List Code)
+      → OnConstructor world i head d height old codes result new after → MatchesAnswers world script d x i height old codes result new after
+  matched_by (wildcard p) head at result new after f = absurd at
+  matched_by (constructor p c xs) head at result new after f =
       subst (λ p. MatchesAnswers world script d (constructor p c xs) i height old codes result new after) at.0 (f script c xs set ready at.1 at.2)

@@ -1,5 +1,5 @@
 -- The names of a pattern's parts.
-use Rattle.std.proofs.Common.{◌≡◌, ℕ, zero, suc, ◌+◌, ◌<◌, ◌≤◌, List, [], ◌∷◌, length, Some, Ok, Err, sym, refl, ap, ◌∙◌, subst, arith}
+use Rattle.std.proofs.Common.{◌≡◌, ℕ, zero, suc, ◌+◌, ◌<◌, ◌≤◌, List, [], ◌∷◌, length, Some, None, Ok, Err, sym, refl, ap, ◌∙◌, subst, arith}
 use Rattle.globals.specs.Known.{meaning_in}
 use Rattle.globals.proofs.PairLaws.{kind_valid}
 use Rattle.grammar.specs.Trees.{PatternPart, bound, skipped, Script}
@@ -8,7 +8,6 @@ use Rattle.naming.specs.Judges.{Desk, Setting, Ready, Lying, names, rows_of, tex
 use Rattle.naming.specs.declared.world.World.{World}
 use Rattle.layout.specs.declared.word.Word.{Word}
 use Rattle.patterns.specs.Parts.{IsPart}
-use Rattle.patterns.specs.declared.part.Part.TheVariants as part
 use Rattle.program.specs.Programs.{program}
 use Rattle.program.specs.Scopes.{bind_scope, bits}
 use Rattle.script_refusals.specs.declared.refusal.Refused.{Refused}
@@ -68,21 +67,21 @@ module _ (world : World) (script : Script) (set : Setting world script) where
 
   -- A name before other parts.
   module _ (row after height high next : ℕ) (old : Desk) (ready : Ready world script old) (w : Word) (kind : ValueType) (ek : kind ≡ kind_of_row row) (en : next ≡ (row_at (rows_of world script) row).past) where
-    pub part_refused : (xs : List PatternPart) (τs : Tys) (last : ℕ) (r : Refused) (mid new : Desk) → IsPart (text_of world script) xs (part.Bound w after) → lie_from row last τs → length xs ≡ count τs
+    pub part_refused : (xs : List PatternPart) (τs : Tys) (last : ℕ) (r : Refused) (mid new : Desk) → IsPart (text_of world script) xs (Some (record { name = Some w; after = after })) → lie_from row last τs → length xs ≡ count τs
         → OnName world w kind height old (Err r) mid → PartsAnswers world script xs τs height old (Err r) new
     part_refused [] τs last r mid new at lie many bind = absurd at
-    part_refused (skipped p ∷ xs) τs last r mid new at lie many bind = absurd at
+    part_refused (skipped p ∷ xs) τs last r mid new at lie many bind = absurd at.0
     part_refused (bound x ∷ xs) τs last r mid new at lie many bind =
         let d = divided (rows_of world script) (meaning_in script) row last (length xs) τs lie many in
         let e = bind script x set ready (subst (IsKind (rows_of world script)) (sym ek) (kind_valid (rows_of world script) row)) at.0 (with_all_bound (program script) xs d.more) in
         subst (λ τs. PartsAnswers world script (bound x ∷ xs) τs height old (Err r) new) (sym d.is)
         (subst (λ τ. PartsAnswers world script (bound x ∷ xs) (and_type τ d.more) height old (Err r) new) (ap (ty (meaning_in script)) ek ∙ d.here) e)
 
-    pub part_bound : (xs : List PatternPart) (τs : Tys) (last : ℕ) (mid new : Desk) (b c : ℕ) → IsPart (text_of world script) xs (part.Bound w after) → lie_from row last τs → length xs ≡ count τs → length xs ≤ 6
+    pub part_bound : (xs : List PatternPart) (τs : Tys) (last : ℕ) (mid new : Desk) (b c : ℕ) → IsPart (text_of world script) xs (Some (record { name = Some w; after = after })) → lie_from row last τs → length xs ≡ count τs → length xs ≤ 6
         → OnName world w kind height old (Ok tt) mid → OnParts world after next high mid (Ok b) new
         → (height ≤ 131072 → high ≡ height + 1) → (b < 64 → c ≡ 1 + (b + b)) → PartsAnswers world script xs τs height old (Ok c) new
     part_bound [] τs last mid new b c at lie many six bind rest up bit = absurd at
-    part_bound (skipped p ∷ xs) τs last mid new b c at lie many six bind rest up bit = absurd at
+    part_bound (skipped p ∷ xs) τs last mid new b c at lie many six bind rest up bit = absurd at.0
     part_bound (bound x ∷ xs) τs last mid new b c at lie many six bind rest up bit =
         let d = divided (rows_of world script) (meaning_in script) row last (length xs) τs lie many in
         let one = bind script x set ready (subst (IsKind (rows_of world script)) (sym ek) (kind_valid (rows_of world script) row)) at.0 in
@@ -107,10 +106,10 @@ module _ (world : World) (script : Script) (set : Setting world script) where
           bit (omega (arith, more.1)) ∙ ap (λ b. 1 + (b + b)) more.1,
         ))
 
-    pub part_later : (xs : List PatternPart) (τs : Tys) (last : ℕ) (mid new : Desk) (r : Refused) → IsPart (text_of world script) xs (part.Bound w after) → lie_from row last τs → length xs ≡ count τs → length xs ≤ 6
+    pub part_later : (xs : List PatternPart) (τs : Tys) (last : ℕ) (mid new : Desk) (r : Refused) → IsPart (text_of world script) xs (Some (record { name = Some w; after = after })) → lie_from row last τs → length xs ≡ count τs → length xs ≤ 6
         → OnName world w kind height old (Ok tt) mid → OnParts world after next high mid (Err r) new → PartsAnswers world script xs τs height old (Err r) new
     part_later [] τs last mid new r at lie many six bind rest = absurd at
-    part_later (skipped p ∷ xs) τs last mid new r at lie many six bind rest = absurd at
+    part_later (skipped p ∷ xs) τs last mid new r at lie many six bind rest = absurd at.0
     part_later (bound x ∷ xs) τs last mid new r at lie many six bind rest =
         let d = divided (rows_of world script) (meaning_in script) row last (length xs) τs lie many in
         let one = bind script x set ready (subst (IsKind (rows_of world script)) (sym ek) (kind_valid (rows_of world script) row)) at.0 in
@@ -121,27 +120,27 @@ module _ (world : World) (script : Script) (set : Setting world script) where
 
   -- A wildcard before other parts.
   module _ (row after height next : ℕ) (old : Desk) (ready : Ready world script old) (en : next ≡ (row_at (rows_of world script) row).past) where
-    pub part_skipped : (xs : List PatternPart) (τs : Tys) (last : ℕ) (new : Desk) (b c : ℕ) → IsPart (text_of world script) xs (part.Skipped after) → lie_from row last τs → length xs ≡ count τs → length xs ≤ 6
+    pub part_skipped : (xs : List PatternPart) (τs : Tys) (last : ℕ) (new : Desk) (b c : ℕ) → IsPart (text_of world script) xs (Some (record { name = None; after = after })) → lie_from row last τs → length xs ≡ count τs → length xs ≤ 6
         → OnParts world after next height old (Ok b) new → (b < 64 → c ≡ b + b) → PartsAnswers world script xs τs height old (Ok c) new
     part_skipped [] τs last new b c at lie many six rest bit = absurd at
-    part_skipped (bound x ∷ xs) τs last new b c at lie many six rest bit = absurd at
+    part_skipped (bound x ∷ xs) τs last new b c at lie many six rest bit = absurd at.0
     part_skipped (skipped p ∷ xs) τs last new b c at lie many six rest bit =
         let d = divided (rows_of world script) (meaning_in script) row last (length xs) τs lie many in
-        let more = rest script xs d.more last set ready at (subst (λ r. lie_from r last d.more) (sym en) d.lie) d.count_is (omega arith) in
+        let more = rest script xs d.more last set ready at.1 (subst (λ r. lie_from r last d.more) (sym en) d.lie) d.count_is (omega arith) in
         let few = bits_few xs (omega arith) in
         let q = more.0 in
         subst (λ τs. PartsAnswers world script (skipped p ∷ xs) τs height old (Ok c) new) (sym d.is)
         (record { type = q.type; ready = q.ready; depth = q.depth; lying = q.lying }, bit (omega (arith, more.1)) ∙ ap (λ b. b + b) more.1)
 
-    pub part_skipped_later : (xs : List PatternPart) (τs : Tys) (last : ℕ) (new : Desk) (r : Refused) → IsPart (text_of world script) xs (part.Skipped after) → lie_from row last τs → length xs ≡ count τs → length xs ≤ 6
+    pub part_skipped_later : (xs : List PatternPart) (τs : Tys) (last : ℕ) (new : Desk) (r : Refused) → IsPart (text_of world script) xs (Some (record { name = None; after = after })) → lie_from row last τs → length xs ≡ count τs → length xs ≤ 6
         → OnParts world after next height old (Err r) new → PartsAnswers world script xs τs height old (Err r) new
     part_skipped_later [] τs last new r at lie many six rest = absurd at
-    part_skipped_later (bound x ∷ xs) τs last new r at lie many six rest = absurd at
+    part_skipped_later (bound x ∷ xs) τs last new r at lie many six rest = absurd at.0
     part_skipped_later (skipped p ∷ xs) τs last new r at lie many six rest =
         let d = divided (rows_of world script) (meaning_in script) row last (length xs) τs lie many in
-        subst (λ τs. PartsAnswers world script (skipped p ∷ xs) τs height old (Err r) new) (sym d.is) (rest script xs d.more last set ready at (subst (λ r. lie_from r last d.more) (sym en) d.lie) d.count_is (omega arith))
+        subst (λ τs. PartsAnswers world script (skipped p ∷ xs) τs height old (Err r) new) (sym d.is) (rest script xs d.more last set ready at.1 (subst (λ r. lie_from r last d.more) (sym en) d.lie) d.count_is (omega arith))
 
-    pub part_end : (xs : List PatternPart) (τs : Tys) → IsPart (text_of world script) xs part.End → PartsAnswers world script xs τs height old (Ok 0) old
+    pub part_end : (xs : List PatternPart) (τs : Tys) → IsPart (text_of world script) xs None → PartsAnswers world script xs τs height old (Ok 0) old
     part_end [] τs at = (
       record {
         type = refl;

@@ -10,6 +10,7 @@ use Rattle.layout.specs.Spelling.{Spells, Shows}
 use Rattle.layout.specs.declared.tables.Tables.{Tables}
 use Rattle.layout.specs.declared.word.Word.{Word}
 use Rattle.patterns.specs.Parts.{PartsAt}
+use Rattle.patterns.specs.declared.head.Head.{Head}
 use Rattle.program.specs.Compiling.{code, branch_op, branch_scope}
 use Rattle.program.specs.Programs as means
 use Rattle.program.specs.Programs.{program, global_of}
@@ -89,10 +90,10 @@ OnParameters world tables first past row old result new =
 abbrev pub OnHead : World → ℕ → ℕ → List ℕ → Result ℕ Refused → Type 0
 OnHead world p q w result = (script : Script) → Setting world script → HeadAnswers world script p q w result
 
-abbrev pub OnConstructor : World → ℕ → ℕ → Word → ℕ → ℕ → ℕ → Desk → List Code → Result (Unit {0}) Refused → Desk → List Code → Type 0
-OnConstructor world i place word inside d height old codes result new after =
-    (script : Script) (c : Ident) (xs : List PatternPart) → Setting world script → Ready world script old → Spells (text_of world script) word c → PartsAt (text_of world script) inside xs
-    → MatchesAnswers world script d (Pattern.constructor place c xs) i height old codes result new after
+abbrev pub OnConstructor : World → ℕ → Head → ℕ → ℕ → Desk → List Code → Result (Unit {0}) Refused → Desk → List Code → Type 0
+OnConstructor world i head d height old codes result new after =
+    (script : Script) (c : Ident) (xs : List PatternPart) → Setting world script → Ready world script old → Spells (text_of world script) head.name c → PartsAt (text_of world script) head.inside xs
+    → MatchesAnswers world script d (Pattern.constructor head.place c xs) i height old codes result new after
 
 abbrev pub OnPattern : World → ℕ → ℕ → ℕ → ℕ → Desk → List Code → Result (Unit {0}) Refused → Desk → List Code → Type 0
 OnPattern world i place d height old codes result new after =

@@ -4,28 +4,21 @@ ghost use Rattle.naming.specs.Binding.{OnName, OnParts, OnParameters, IsFresh};
 ghost use Rattle.naming.specs.Judges.{desk, Grown};
 ghost use Rattle.layout.specs.Tabling.{unused_word};
 
-use super::reads::refused;
 use super::world::World;
-use globals::Global;
+use globals::refused;
 use layout::{Tables, Word};
 use names::part;
-use patterns::{Part, next_part};
+use patterns::next_part;
 use scopes::{Local, Scope, find, push};
 use script_refusals::{Refusal, Refused};
-use stack::Full;
 use type_rows::ValueType;
 
 // Whether no local in scope has a name, and nothing in the whole script.
 fn is_fresh(world: &World<'_>, locals: &[Local], depth: usize, name: &[u8]) -> bool
     ensures { IsFresh world.now locals.now depth name.now result }
 {
-    match find(world.text, locals, depth, name) {
-        Some(_) => false,
-        None => match world.globals.named(world.text, name) {
-            Global::Unbound => true,
-            _ => false,
-        },
-    }
+    find(world.text, locals, depth, name).is_none()
+        && world.globals.named(world.text, name).is_none()
 }
 
 // A name is bound.
@@ -46,15 +39,11 @@ pub fn bind(
         kind,
         height,
     };
-    match push(scope, locals, local) {
-        Ok(()) => {
-            if is_fresh(world, locals, depth, part(world.text, word)) {
-                return Ok(());
-            }
-            Err(refused(Refusal::Repeated, word.place))
-        }
-        Err(Full) => Err(refused(Refusal::Limit, word.place)),
+    push(scope, locals, local).map_err(|_| refused(Refusal::Limit, word.place))?;
+    if is_fresh(world, locals, depth, part(world.text, word)) {
+        return Ok(());
     }
+    Err(refused(Refusal::Repeated, word.place))
 }
 
 // The names of a pattern whose parts stand at a place, with the types from a row up to another; the fields that are bound, as bits.
@@ -69,47 +58,39 @@ pub fn bind_parts(
     ensures grown { Grown (desk scope.old locals.old) (desk scope.new locals.new) }
     ensures bound { OnParts world.now place row height (desk scope.old locals.old) result (desk scope.new locals.new) }
 {
+    let Some(part) = next_part(world.text, place) else {
+        return Ok(0);
+    };
     let rows = world.globals.rows();
-    match next_part(world.text, place) {
-        Part::Bound(word, after) => match bind(world, word, rows.kind(row), height, scope, locals) {
-            Ok(()) => match bind_parts(
+    let next = rows.row(row as usize).past;
+    match part.name {
+        Some(word) => {
+            bind(world, word, rows.kind(row), height, scope, locals)?;
+            let bits = bind_parts(
                 world,
-                after,
-                rows.row(row as usize).past,
+                part.after,
+                next,
                 height.saturating_add(1),
                 scope,
                 locals,
-            ) {
-                Ok(bits) => Ok(bits.saturating_mul(2).saturating_add(1)),
-                Err(refused) => Err(refused),
-            },
-            Err(refused) => Err(refused),
-        },
-        Part::Skipped(after) => {
-            match bind_parts(
-                world,
-                after,
-                rows.row(row as usize).past,
-                height,
-                scope,
-                locals,
-            ) {
-                Ok(bits) => Ok(bits.saturating_mul(2)),
-                Err(refused) => Err(refused),
-            }
+            )?;
+            Ok(bits.saturating_mul(2).saturating_add(1))
         }
-        Part::End => Ok(0),
+        None => {
+            let bits = bind_parts(world, part.after, next, height, scope, locals)?;
+            Ok(bits.saturating_mul(2))
+        }
     }
 }
+
+// What stands past the end of a table of words.
+const UNUSED: Word = Word { place: 0, size: 0 };
 
 // A word of a table.
 fn word_at(words: &[Word], k: usize) -> Word
     ensures { result ≡ slice_index_or words.now k unused_word }
 {
-    if k < words.len() {
-        return words[k];
-    }
-    Word { place: 0, size: 0 }
+    words.get(k).copied().unwrap_or(UNUSED)
 }
 
 // The parameters of a define, from an entry of the table of parameters up to another, with the types from a row on.
@@ -128,23 +109,15 @@ pub fn bind_parameters(
         return Ok(());
     }
     let rows = world.globals.rows();
-    match bind(
+    let word = word_at(&tables.parameters, first as usize);
+    bind(world, word, rows.kind(row), scope.depth, scope, locals)?;
+    bind_parameters(
         world,
-        word_at(&tables.parameters, first as usize),
-        rows.kind(row),
-        scope.depth,
+        tables,
+        first + 1,
+        past,
+        rows.row(row as usize).past,
         scope,
         locals,
-    ) {
-        Ok(()) => bind_parameters(
-            world,
-            tables,
-            first + 1,
-            past,
-            rows.row(row as usize).past,
-            scope,
-            locals,
-        ),
-        Err(refused) => Err(refused),
-    }
+    )
 }

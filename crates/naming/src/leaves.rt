@@ -9,9 +9,9 @@ ghost use Rattle.program.specs.Programs.{program, global_of};
 ghost use Rattle.typing.specs.Judging as judging;
 ghost use Rattle.typing.specs.Judging.{dup_global};
 
-use super::reads::{mismatch, node_at, note, refused, val_at};
+use super::reads::{mismatch, node_at, note, val_at};
 use super::world::World;
-use globals::Global;
+use globals::{Global, refused};
 use layout::{Node, Word};
 use names::part;
 use program::{Code, Op};
@@ -44,10 +44,7 @@ fn distance(height: usize, entry: usize) -> u16
 fn is_datatype(kind: ValueType) -> bool
     ensures { result ≡ datatype_kind kind }
 {
-    match kind {
-        ValueType::Datatype(_) => true,
-        _ => false,
-    }
+    matches!(kind, ValueType::Datatype(_))
 }
 
 // A local that is entered is consumed, if its type is a datatype.
@@ -71,19 +68,17 @@ fn global_name(
     ensures { OnGlobal world.now name.now i node codes.old result codes.new }
 {
     match world.globals.named(world.text, name) {
-        Global::Function(n) => {
+        Some(Global::Function(n)) => {
             note(codes, i, node, Op::Function(n));
             Ok(world.globals.function_type(n))
         }
-        Global::Constructor(_) => Err(mismatch(node.place)),
-        Global::Val(k) => match val_at(world.vals, k) {
-            Some(kind) => {
-                note(codes, i, node, Op::Val(k));
-                Ok(kind)
-            }
-            None => Err(refused(Refusal::Unknown, node.place)),
-        },
-        Global::Unbound => Err(refused(Refusal::Unknown, node.place)),
+        Some(Global::Constructor(_)) => Err(mismatch(node.place)),
+        Some(Global::Val(k)) => {
+            let kind = val_at(world.vals, k).ok_or(refused(Refusal::Unknown, node.place))?;
+            note(codes, i, node, Op::Val(k));
+            Ok(kind)
+        }
+        None => Err(refused(Refusal::Unknown, node.place)),
     }
 }
 
@@ -97,7 +92,6 @@ pub fn name(
     locals: &[Local],
     codes: &mut [Code],
 ) -> Result<ValueType, Refused>
-    requires { i < length world.now.nodes.now }
     ensures kept { Kept (desk scope.old locals.now) (desk scope.new locals.now) }
     ensures answers { OnForm world.now (form.Name size) i height (desk scope.old locals.now) codes.old result (desk scope.new locals.now) codes.new }
 {
@@ -128,13 +122,13 @@ fn no_dup(world: &World<'_>, place: u16, word: Word, name: &[u8]) -> Refused
     ensures { (script : Script) → Setting world.now script → dup_global (vals_of world.now script) place word.place (global_of (program script) name.now) ≡ judging.refused result }
 {
     match world.globals.named(world.text, name) {
-        Global::Function(_) => mismatch(place),
-        Global::Constructor(_) => mismatch(place),
-        Global::Val(k) => match val_at(world.vals, k) {
+        Some(Global::Function(_)) => mismatch(place),
+        Some(Global::Constructor(_)) => mismatch(place),
+        Some(Global::Val(k)) => match val_at(world.vals, k) {
             Some(_) => mismatch(place),
             None => refused(Refusal::Unknown, word.place),
         },
-        Global::Unbound => refused(Refusal::Unknown, word.place),
+        None => refused(Refusal::Unknown, word.place),
     }
 }
 
@@ -148,7 +142,6 @@ pub fn dup(
     locals: &[Local],
     codes: &mut [Code],
 ) -> Result<ValueType, Refused>
-    requires { i < length world.now.nodes.now }
     ensures { OnForm world.now (form.Dup word) i height (desk scope.now locals.now) codes.old result (desk scope.now locals.now) codes.new }
 {
     let node = node_at(world.nodes, i);

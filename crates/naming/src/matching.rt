@@ -8,12 +8,12 @@ ghost use Rattle.grammar.specs.Trees.{PatternPart};
 ghost use Rattle.patterns.specs.Parts.{PartsAt};
 
 use super::binding::bind_parts;
-use super::reads::{node_at, note, refused, val_at};
+use super::reads::{node_at, note, val_at};
 use super::world::World;
-use globals::{Global, Variant};
+use globals::{Global, Variant, refused};
 use layout::Word;
 use names::part;
-use patterns::{Head, Part, head_at, next_part};
+use patterns::{Head, head_at, next_part};
 use program::{Code, Op};
 use scopes::{Local, Scope, find};
 use script_refusals::{Refusal, Refused};
@@ -24,16 +24,14 @@ fn count_parts(text: &[u8], place: usize) -> usize
 {
     let mut at = place;
     let mut count: usize = 0;
-    loop {
-        match next_part(text, at) {
-            Part::Bound(_, after) => at = after,
-            Part::Skipped(after) => at = after,
-            Part::End => return count,
-        }
+    'parts: while let Some(part) = next_part(text, at) {
+        at = part.after;
         count = count.saturating_add(1);
     }
+    count
 }
 
+// A pattern that does not fit, at itself.
 fn unlike(place: usize) -> Refused
     ensures { result ≡ refused_at Mismatch place }
 {
@@ -48,13 +46,13 @@ fn variant_of(world: &World<'_>, place: usize, word: Word, name: &[u8]) -> Resul
     ensures { OnHead world.now place word.place name.now result }
 {
     match world.globals.named(world.text, name) {
-        Global::Function(_) => Err(unlike(place)),
-        Global::Constructor(k) => Ok(k),
-        Global::Val(k) => match val_at(world.vals, k) {
+        Some(Global::Function(_)) => Err(unlike(place)),
+        Some(Global::Constructor(k)) => Ok(k),
+        Some(Global::Val(k)) => match val_at(world.vals, k) {
             Some(_) => Err(unlike(place)),
             None => Err(refused(Refusal::Unknown, word.place)),
         },
-        Global::Unbound => Err(refused(Refusal::Unknown, word.place)),
+        None => Err(refused(Refusal::Unknown, word.place)),
     }
 }
 
@@ -69,9 +67,7 @@ fn fits(text: &[u8], inside: usize, variant: Variant, datatype: u16) -> bool
 fn constructor(
     world: &World<'_>,
     i: usize,
-    place: usize,
-    word: Word,
-    inside: usize,
+    head: Head,
     datatype: u16,
     height: usize,
     scope: &mut Scope,
@@ -79,29 +75,25 @@ fn constructor(
     codes: &mut [Code],
 ) -> Result<(), Refused>
     ensures grown { Grown (desk scope.old locals.old) (desk scope.new locals.new) }
-    ensures matched { OnConstructor world.now i place word inside datatype height (desk scope.old locals.old) codes.old result (desk scope.new locals.new) codes.new }
+    ensures matched { OnConstructor world.now i head datatype height (desk scope.old locals.old) codes.old result (desk scope.new locals.new) codes.new }
 {
+    let Head {
+        place,
+        name: word,
+        inside,
+    } = head;
     let name = part(world.text, word);
-    match find(world.text, locals, scope.depth, name) {
-        Some(_) => return Err(unlike(place)),
-        None => {}
+    if find(world.text, locals, scope.depth, name).is_some() {
+        return Err(unlike(place));
     }
-    match variant_of(world, place, word, name) {
-        Ok(k) => {
-            let variant = world.globals.variant(k);
-            if !fits(world.text, inside, variant, datatype) {
-                return Err(unlike(place));
-            }
-            match bind_parts(world, inside, variant.first, height, scope, locals) {
-                Ok(bits) => {
-                    note(codes, i, node_at(world.nodes, i), Op::Branch(k, bits));
-                    Ok(())
-                }
-                Err(refused) => Err(refused),
-            }
-        }
-        Err(refused) => Err(refused),
+    let k = variant_of(world, place, word, name)?;
+    let variant = world.globals.variant(k);
+    if !fits(world.text, inside, variant, datatype) {
+        return Err(unlike(place));
     }
+    let bits = bind_parts(world, inside, variant.first, height, scope, locals)?;
+    note(codes, i, node_at(world.nodes, i), Op::Branch(k, bits));
+    Ok(())
 }
 
 // The pattern at a place, of the branch at a node, for values of a datatype.
@@ -119,14 +111,10 @@ pub fn pattern(
     ensures matched { OnPattern world.now i place datatype height (desk scope.old locals.old) codes.old result (desk scope.new locals.new) codes.new }
 {
     match head_at(world.text, place as usize) {
-        Head::Wildcard => {
+        None => {
             note(codes, i, node_at(world.nodes, i), Op::Any);
             Ok(())
         }
-        Head::Constructor(at, word, inside) => {
-            constructor(
-                world, i, at, word, inside, datatype, height, scope, locals, codes,
-            )
-        }
+        Some(head) => constructor(world, i, head, datatype, height, scope, locals, codes),
     }
 }

@@ -4,26 +4,27 @@ ghost use Rattle.std.specs.List.{slice_get};
 ghost use Rattle.layout.specs.Decoding.{node_found};
 ghost use Rattle.program.specs.Compiling.{code};
 ghost use Rattle.script_refusals.specs.Refusals.{refused_at};
-ghost use Rattle.script_refusals.specs.declared.refusal.Refusal.{Refusal};
 ghost use Rattle.script_refusals.specs.declared.refusal.Refusal.TheVariants.{Mismatch};
 
+use entries::put;
+use globals::refused;
 use layout::{Node, NodeForm};
 use program::{Code, Op};
 use script_refusals::{Refusal, Refused};
 use type_rows::ValueType;
 
+// What stands past the end of the nodes.
+const UNUSED: Node = Node {
+    form: NodeForm::Unused,
+    place: 0,
+    past: 0,
+};
+
 // The node with a number.
 pub fn node_at(nodes: &[Node], i: usize) -> Node
     ensures { result ≡ node_found nodes.now i }
 {
-    if i < nodes.len() {
-        return nodes[i];
-    }
-    Node {
-        form: NodeForm::Unused,
-        place: 0,
-        past: 0,
-    }
+    nodes.get(i).copied().unwrap_or(UNUSED)
 }
 
 // The number of the node after the last part of the one with a number.
@@ -37,20 +38,7 @@ pub fn after(nodes: &[Node], i: usize) -> usize
 pub fn val_at(vals: &[ValueType], k: u16) -> Option<ValueType>
     ensures { result ≡ slice_get vals.now k }
 {
-    let k = k as usize;
-    if k < vals.len() {
-        return Some(vals[k]);
-    }
-    None
-}
-
-pub fn refused(refusal: Refusal, place: u16) -> Refused
-    ensures { result ≡ refused_at refusal place }
-{
-    Refused {
-        refusal,
-        place: place as usize,
-    }
+    vals.get(k as usize).copied()
 }
 
 // Types or numbers of parts do not fit.
@@ -64,11 +52,10 @@ pub fn mismatch(place: u16) -> Refused
 pub fn note(codes: &mut [Code], i: usize, node: Node, op: Op)
     ensures { codes.new ≡ slice_set codes.old i (code op node.place node.past) }
 {
-    if i < codes.len() {
-        codes[i] = Code {
-            op,
-            place: node.place,
-            past: node.past,
-        };
-    }
+    let code = Code {
+        op,
+        place: node.place,
+        past: node.past,
+    };
+    put(codes, i, code);
 }

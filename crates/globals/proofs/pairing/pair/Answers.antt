@@ -1,30 +1,58 @@
-use Rattle.std.proofs.Common.{refl, arith}
+use Rattle.std.proofs.Common.{◌≡◌, ◌<◌, get_or, Err, sym, refl, subst, arith, rules}
+use Rattle.std.specs.Prelude.{min}
+use Rattle.globals.specs.Pairs.{ArePaired}
+use Rattle.layout.specs.declared.definition.Definition.TheVariants as definition
 use Rattle.program.specs.Programs.{program}
 use Rattle.type_rows.specs.TypeExprs.{types_listed, meaning}
+use Rattle.globals.proofs.Listed.{entry_listed}
 use Rattle.globals.proofs.PairLaws.{pairing_start, pairing_next, pairing_refused, pairing_end}
 use Rattle.globals.proofs.pairing.pair.Goals as goal
 
-pub loop-k-init : goal.loop-k-init
-loop-k-init c = record {
+pub loop-definition-init : goal.loop-definition-init
+loop-definition-init c = record {
   few = omega arith;
   pairing = λ script laid n has. pairing_start c.args.text.now c.args.tables.now script (meaning (program script) (types_listed script)) c.args.rows.now _ refl laid;
 }
 
-pub loop-k-preserved : goal.loop-k-preserved
-loop-k-preserved c = record {
-  few = let few = c.in-Ok.ensures.few in let before = c.loop-k.invariant.few in omega arith;
+pub pair_one-requires : goal.pair_one-requires
+pair_one-requires c =
+    let few = c.loop-definition.invariant.few in
+    let test = c.loop-definition-test.true in
+    let many = c.definitions-definition-items.ensures.many in
+    omega arith
+
+pub loop-definition-preserved : goal.loop-definition-preserved
+loop-definition-preserved c = record {
+  few = let few = c.in_ok-defines.ensures.few in let before = c.loop-definition.invariant.few in omega arith;
   pairing = λ script laid n has.
-      pairing_next c.args.text.now c.args.tables.now script (meaning (program script) (types_listed script)) c.args.rows.now c.loop-k.k c.loop-k.defines c.loop-k.types.types c.definition_at.result (omega arith) c.definition_at.ensures
-      c.in-Ok.more c.pair_one.new.types.types
-      (λ k d lies. c.in-Ok.ensures.pairs c.args.tables.now script k d n has laid.types.few lies) (c.loop-k.invariant.pairing script laid n has);
+      let k = c.loop-definition.definition-index in
+      let items = c.definitions-definition-items.result.now in
+      let test = c.loop-definition-test.true in
+      let many = c.definitions-definition-items.ensures.many in
+      let within : k < min c.args.tables.now.counts.definitions 832 = omega arith in
+      pairing_next c.args.text.now c.args.tables.now script (meaning (program script) (types_listed script)) c.args.rows.now k c.loop-definition.defines c.loop-definition.types.types (get_or items k definition.Unused) (omega arith)
+      (entry_listed c.args.text.now c.args.tables.now items k c.definitions-definition-items.ensures.items within)
+      c.in_ok-defines.defines c.pair_one.new.types.types
+      (λ k d lies. c.in_ok-defines.ensures.pairs c.args.tables.now script k d n has laid.types.few lies) (c.loop-definition.invariant.pairing script laid n has);
 }
 
-pub returns-in-Err : goal.returns-in-Err
-returns-in-Err c = λ script laid n has.
-    pairing_refused c.args.text.now c.args.tables.now script (meaning (program script) (types_listed script)) c.args.rows.now c.loop-k.k c.loop-k.defines c.loop-k.types.types c.definition_at.result (omega arith) c.definition_at.ensures
-    c.in-Err.refused (λ k d lies. c.in-Err.ensures.pairs c.args.tables.now script k d n has laid.types.few lies) (c.loop-k.invariant.pairing script laid n has)
+pub returns-in_err-defines : goal.returns-in_err-defines
+returns-in_err-defines c = λ script laid n has.
+    let k = c.loop-definition.definition-index in
+    let items = c.definitions-definition-items.result.now in
+    let test = c.loop-definition-test.true in
+    let many = c.definitions-definition-items.ensures.many in
+    let within : k < min c.args.tables.now.counts.definitions 832 = omega arith in
+    let r = c.in_err-defines.field-0.0 in
+    let is : c.from_residual.result ≡ Err r = search rules in
+    subst (ArePaired (program script) script (meaning (program script) (types_listed script)) c.args.rows.now) (sym is)
+    (pairing_refused c.args.text.now c.args.tables.now script (meaning (program script) (types_listed script)) c.args.rows.now k c.loop-definition.defines c.loop-definition.types.types (get_or items k definition.Unused) (omega arith)
+    (entry_listed c.args.text.now c.args.tables.now items k c.definitions-definition-items.ensures.items within)
+    r (λ k d lies. c.in_err-defines.ensures.pairs c.args.tables.now script k d n has laid.types.few lies) (c.loop-definition.invariant.pairing script laid n has))
 
 pub returns : goal.returns
 returns c = λ script laid n has.
+    let test = c.loop-definition-test.false in
+    let many = c.definitions-definition-items.ensures.many in
     let entries = laid.entries in
-    pairing_end c.args.text.now c.args.tables.now script (meaning (program script) (types_listed script)) c.args.rows.now c.loop-k.k c.loop-k.defines c.loop-k.types.types (omega arith) (c.loop-k.invariant.pairing script laid n has)
+    pairing_end c.args.text.now c.args.tables.now script (meaning (program script) (types_listed script)) c.args.rows.now c.loop-definition.definition-index c.loop-definition.defines c.loop-definition.types.types (omega arith) (c.loop-definition.invariant.pairing script laid n has)

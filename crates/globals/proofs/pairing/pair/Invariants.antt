@@ -7,9 +7,9 @@ use Rattle.type_rows.specs.TypeExprs.{types_listed, meaning, HasRows}
 use Rattle.globals.proofs.PairLaws.{Pairing}
 use Rattle.globals.proofs.pairing.pair.Given as goal
 
-abbrev pub invariant-loop-k : goal.invariant-loop-k
-invariant-loop-k l = record {
-  few : l.defines ≤ l.k;
+abbrev pub invariant-loop-definition : goal.invariant-loop-definition
+invariant-loop-definition l = record {
+  few : l.defines ≤ l.definition-index;
   pairing : (script : Script) → Laid l.text l.tables script → Named l.text l.declared script → HasRows (program script) (types_listed script) l.rows.rows
-      → Pairing l.text l.tables script (meaning (program script) (types_listed script)) l.rows l.k l.defines l.types.types;
+      → Pairing l.text l.tables script (meaning (program script) (types_listed script)) l.rows l.definition-index l.defines l.types.types;
 }

@@ -1,4 +1,4 @@
-use Rattle.std.proofs.Common.{sym, ◌∙◌, arith}
+use Rattle.std.proofs.Common.{sym, ◌∙◌}
 use Rattle.naming.specs.Judges.{desk}
 use Rattle.naming.proofs.LeafLaws.{dup_consumed, dup_local_rule, dup_refused}
 use Rattle.naming.proofs.leaves.dup.Goals as goal
@@ -12,7 +12,7 @@ pub returns-else-is_marked : goal.returns-else-is_marked
 returns-else-is_marked c script e set ready code =
     dup_local_rule c.args.world.now script set (desk c.args.scope.now c.args.locals.now) ready c.args.i c.node_at-node.result c.args.word c.part-name.result.now c.node_at-node.ensures c.part-name.ensures
     c.in-Some.k c.args.height c.distance.result c.args.codes.now c.note.new.codes c.local_at-local.result code c.in-Some.ensures (sym c.is_marked.ensures ∙ c.if-is_marked.false) c.local_at-local.ensures c.distance.ensures
-    (let few = set.few in omega (arith, c.requires)) c.note.ensures
+    c.note.ensures
 
 pub returns-in-None : goal.returns-in-None
 returns-in-None c script e set ready code =

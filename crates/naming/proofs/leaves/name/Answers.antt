@@ -1,4 +1,4 @@
-use Rattle.std.proofs.Common.{sym, ◌∙◌, arith}
+use Rattle.std.proofs.Common.{sym, ◌∙◌}
 use Rattle.naming.specs.Judges.{desk}
 use Rattle.naming.proofs.LeafLaws.{name_consumed, name_local, name_global}
 use Rattle.naming.proofs.leaves.name.Goals as goal
@@ -12,7 +12,7 @@ pub returns-else-is_marked-clause-answers : goal.returns-else-is_marked-clause-a
 returns-else-is_marked-clause-answers c script e set ready code =
     name_local c.args.world.now script set (desk c.args.scope.now c.args.locals.now) ready c.args.i c.args.size c.node_at-node.result c.part-name.result.now c.node_at-node.ensures c.part-name.ensures
     c.in-Some.k c.args.height c.distance.result c.args.codes.now c.note.new.codes c.local_at-local.result (desk c.consume.new.scope c.args.locals.now) code c.in-Some.ensures (sym c.is_marked.ensures ∙ c.if-is_marked.false) c.local_at-local.ensures c.distance.ensures
-    (let few = set.few in omega (arith, c.requires)) c.note.ensures (cc (c.consume.ensures.depth, c.consume.ensures.marks))
+    c.note.ensures (cc (c.consume.ensures.depth, c.consume.ensures.marks))
 
 pub returns-in-None-clause-answers : goal.returns-in-None-clause-answers
 returns-in-None-clause-answers c script e set ready code =

@@ -4,11 +4,11 @@ use Rattle.patterns.specs.Parts.{PartsAt}
 use Rattle.naming.proofs.CountLaws.{Counting}
 use Rattle.naming.proofs.matching.count_parts.Given as goal
 
-abbrev pub invariant-loop-after : goal.invariant-loop-after
-invariant-loop-after l = record {
+abbrev pub invariant-parts : goal.invariant-parts
+invariant-parts l = record {
   few : l.count ≤ l.at;
   counting : (xs : List PatternPart) → length l.text ≤ 65535 → PartsAt l.text l.place xs → Counting l.text l.at l.count xs;
 }
 
-abbrev pub decreases-loop-after : goal.decreases-loop-after
-decreases-loop-after l = length l.text - l.at
+abbrev pub decreases-parts : goal.decreases-parts
+decreases-parts l = length l.text - l.at

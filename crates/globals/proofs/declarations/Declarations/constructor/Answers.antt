@@ -9,8 +9,8 @@ use Rattle.globals.proofs.declarations.Declarations.constructor.Goals as goal
 pub returns-clause-holds : goal.returns-clause-holds
 returns-clause-holds c = λ t k x h lies many low room.
     let entry = c.constructor_at-entry.result in
-    let g = c.in_default.ensures.holds t x.name h (search rules) room in
+    let g = c.in_ok-bind.ensures.holds t x.name h (search rules) room in
     let made : Variant = record { datatype = c.args.datatype; first = entry.first; past = entry.past; fields = entry.fields } in
     let v : ◌≡◌ {A = Variant} made (record { datatype = c.args.datatype; first = k; past = k + types_count x.fields; fields = types_length x.fields }) = search rules in
-    let long = c.set_variant.ensures.long in
-    also_variant c.args.text.now c.bind.new.self (also_bound x.name (means.constructor c.args.i) t) c.args.i c.set_variant.new.variants made _ g many (omega arith) c.set_variant.ensures.written v
+    let long = c.put.ensures.long in
+    also_variant c.args.text.now c.bind.new.self (also_bound x.name (means.constructor c.args.i) t) c.args.i c.put.new.xs made _ g many (omega arith) c.put.ensures.written v

@@ -1,28 +1,54 @@
-use Rattle.std.proofs.Common.{sym, ap, ◌∙◌, subst}
-use Rattle.globals.specs.Tallies.{Holds, names_from}
+use Rattle.std.proofs.Common.{◌≡◌, ◌<◌, get_or, Err, Result, sym, ap, ◌∙◌, subst, arith, rules}
+use Rattle.std.specs.Prelude.{min}
+use Rattle.globals.specs.Tallies.{Holds, names_from, told}
+use Rattle.layout.specs.declared.definition.Definition.TheVariants as definition
+use Rattle.script_refusals.specs.declared.refusal.Refused.{Refused}
+use Rattle.typing.specs.Verdict.{accepted}
 use Rattle.globals.proofs.Gathering.{gather_start, gather_next, gather_refused, gather_end}
+use Rattle.globals.proofs.Listed.{entry_listed}
 use Rattle.globals.proofs.declarations.Declarations.read.Goals as goal
 
-pub loop-k-init : goal.loop-k-init
-loop-k-init c = λ script l. gather_start c.args.text.now c.args.tables.now script c.new-declared.result l (c.new-declared.ensures c.args.text.now)
+pub loop-definition-init : goal.loop-definition-init
+loop-definition-init c = λ script l. gather_start c.args.text.now c.args.tables.now script c.new-declared.result l (c.new-declared.ensures c.args.text.now)
 
-pub loop-k-preserved : goal.loop-k-preserved
-loop-k-preserved c = λ script l.
-    gather_next c.args.text.now c.args.tables.now script c.loop-k.k c.loop-k.declared c.declare.new.self c.definition_at.result c.loop-k-test.true c.definition_at.ensures c.in_default.ensures.told_names c.in_default.ensures.holds
-    (c.loop-k.invariant script l)
+pub loop-definition-preserved : goal.loop-definition-preserved
+loop-definition-preserved c = λ script l.
+    let k = c.loop-definition.definition-index in
+    let items = c.definitions-definition-items.result.now in
+    let test = c.loop-definition-test.true in
+    let many = c.definitions-definition-items.ensures.many in
+    let within : k < min c.args.tables.now.counts.definitions 832 = omega arith in
+    gather_next c.args.text.now c.args.tables.now script k c.loop-definition.declared c.declare.new.self (get_or items k definition.Unused) (omega arith)
+    (entry_listed c.args.text.now c.args.tables.now items k c.definitions-definition-items.ensures.items within) c.in_ok-declare.ensures.told_names c.in_ok-declare.ensures.holds
+    (c.loop-definition.invariant script l)
 
-pub returns-in-Err-clause-names : goal.returns-in-Err-clause-names
-returns-in-Err-clause-names c = λ script l.
-    gather_refused c.args.text.now c.args.tables.now script c.loop-k.k c.loop-k.declared c.definition_at.result c.in-Err.refused c.loop-k-test.true c.definition_at.ensures c.in-Err.ensures.told_names (c.loop-k.invariant script l)
+pub returns-in_err-declare-clause-names : goal.returns-in_err-declare-clause-names
+returns-in_err-declare-clause-names c = λ script l.
+    let k = c.loop-definition.definition-index in
+    let items = c.definitions-definition-items.result.now in
+    let test = c.loop-definition-test.true in
+    let many = c.definitions-definition-items.ensures.many in
+    let within : k < min c.args.tables.now.counts.definitions 832 = omega arith in
+    let r = c.in_err-declare.field-0.0 in
+    let is : c.from_residual.result ≡ Err r = search rules in
+    gather_refused c.args.text.now c.args.tables.now script k c.loop-definition.declared (get_or items k definition.Unused) r (omega arith)
+    (entry_listed c.args.text.now c.args.tables.now items k c.definitions-definition-items.ensures.items within) c.in_err-declare.ensures.told_names (c.loop-definition.invariant script l)
+    ∙ sym (ap (λ (x : Result _ Refused). told x accepted) is)
 
 pub returns-clause-names : goal.returns-clause-names
 returns-clause-names c = λ script l.
-    let g = c.loop-k.invariant script l in
-    let e = gather_end c.args.text.now c.args.tables.now script c.loop-k.k c.loop-k.declared c.loop-k-test.false g in
+    let test = c.loop-definition-test.false in
+    let many = c.definitions-definition-items.ensures.many in
+    let entries = l.entries in
+    let g = c.loop-definition.invariant script l in
+    let e = gather_end c.args.text.now c.args.tables.now script c.loop-definition.definition-index c.loop-definition.declared (omega arith) g in
     g.said ∙ ap (names_from g.tally) e.0
 
 pub returns-clause-holds : goal.returns-clause-holds
 returns-clause-holds c = λ script l.
-    let g = c.loop-k.invariant script l in
-    let e = gather_end c.args.text.now c.args.tables.now script c.loop-k.k c.loop-k.declared c.loop-k-test.false g in
-    subst (Holds c.args.text.now c.loop-k.declared) (sym e.1) g.holds
+    let test = c.loop-definition-test.false in
+    let many = c.definitions-definition-items.ensures.many in
+    let entries = l.entries in
+    let g = c.loop-definition.invariant script l in
+    let e = gather_end c.args.text.now c.args.tables.now script c.loop-definition.definition-index c.loop-definition.declared (omega arith) g in
+    subst (Holds c.args.text.now c.loop-definition.declared) (sym e.1) g.holds

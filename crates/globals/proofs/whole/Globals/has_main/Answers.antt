@@ -1,4 +1,4 @@
-use Rattle.std.proofs.Common.{codes, sym, ap, ◌∙◌, subst}
+use Rattle.std.proofs.Common.{Some, codes, sym, ap, ◌∙◌, subst}
 use Rattle.basis.specs.declared.function.Basis.TheVariants.{PrintNewline}
 use Rattle.globals.specs.Known.{meaning_in}
 use Rattle.globals.specs.Tallies.{meaning_of}
@@ -8,7 +8,7 @@ use Rattle.type_rows.specs.Shapes.{ty}
 use Rattle.type_rows.specs.TypeExprs.{types_listed}
 use Rattle.type_rows.proofs.ScriptRows.{basis_meant}
 use Rattle.typing.specs.Types.{same_type}
-use Rattle.globals.proofs.GlobalLaws.{not_function}
+use Rattle.globals.proofs.GlobalLaws.{not_function, nothing_named}
 use Rattle.globals.proofs.WholeLaws.{basis_valid, main_function, no_main}
 use Rattle.globals.proofs.whole.Globals.has_main.Goals as goal
 
@@ -17,13 +17,17 @@ returns-in-Function c = λ script known.
     let g = c.args.self.now in
     let text = c.args.text.now in
     let m = meaning_in script in
-    let means-n = sym (c.named.ensures script known) ∙ ap meaning_of c.in-Function.is in
+    let means-n = sym (c.named.ensures script known) ∙ ap meaning_of (c.in-Some.is ∙ ap Some c.in-Function.is) in
     let is = c.function_type.ensures text script (codes "main") known means-n in
     let newline = c.basis_type.ensures in
     main_function text g script known c.in-Function.n c.function_type.result c.same.result means-n is
     (c.same.ensures m known.mean is.valid (subst (IsKind g.rows.rows) (sym newline) (basis_valid text g script known PrintNewline))
     ∙ ap (λ k. same_type (ty m c.function_type.result) (ty m k)) newline ∙ ap (same_type (ty m c.function_type.result)) (basis_meant (program script) (types_listed script) PrintNewline))
 
+pub returns-in_default-main : goal.returns-in_default-main
+returns-in_default-main c = λ script known.
+    no_main c.args.text.now c.args.self.now script known (not_function c.in-Some.main _ (sym (ap meaning_of c.in-Some.is) ∙ c.named.ensures script known) c.in_default-main.not-Function)
+
 pub returns-in_default : goal.returns-in_default
 returns-in_default c = λ script known.
-    no_main c.args.text.now c.args.self.now script known (not_function c.named.result _ (c.named.ensures script known) c.in_default.not-Function)
+    no_main c.args.text.now c.args.self.now script known (nothing_named _ (sym (ap meaning_of c.in_default.is) ∙ c.named.ensures script known))
