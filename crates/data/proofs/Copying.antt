@@ -324,6 +324,23 @@ copying_turn {old} {cs} {exit} {number} {root} {n} {finished} {top} {count} smal
               (subst (λ ns. Drafted old cs root ts ns g.parts.ds count) m.1.shape d);
         }
 
+-- a turn's answer, told with both lists where it came to a field that cannot be copied
+pub data TurnTold (waiting : ℕ) : Result ℕ ℕ → Result ℕ Unfinished → Type 0 where
+  turn_ok : {top : ℕ} → TurnTold waiting (Ok top) (Ok top)
+  turn_err : {top : ℕ} → TurnTold waiting (Err top) (Err (record { waiting = top; finished = waiting }))
+
+pub turn_told : (waiting : ℕ) (q : Result ℕ ℕ) (r : Result ℕ Unfinished) → MatchResult q (λ top. r ≡ Ok top) (λ top. r ≡ Err (record { waiting = top; finished = waiting })) → TurnTold waiting q r
+turn_told waiting (Ok top) r e = rw e turn_ok
+turn_told waiting (Err top) r e = rw e turn_err
+
+pub turn_whole : {waiting top : ℕ} {q : Result ℕ ℕ} {r : Result ℕ Unfinished} → TurnTold waiting q r → r ≡ Ok top → q ≡ Ok top
+turn_whole turn_ok e = cc
+turn_whole turn_err e = absurd (true≢false (sym (ap is_ok e)))
+
+pub turn_stopped : {waiting : ℕ} {u : Unfinished} {q : Result ℕ ℕ} {r : Result ℕ Unfinished} → TurnTold waiting q r → r ≡ Err u → (q ≡ Err u.waiting) × (u.finished ≡ waiting)
+turn_stopped turn_ok e = absurd (true≢false (ap is_ok e))
+turn_stopped turn_err e = (cc, cc)
+
 -- a turn that came to a field that cannot be copied
 pub copying_stopped : {old cs exit : Cells} {number root n finished top count : ℕ} → length cs ≤ 65535 → (n ≡ 65535 → ⊥) → Turned cs n finished (Err top) exit → Copying old number root cs n finished count → Parts old exit top n (count + 1)
 copying_stopped {old} {cs} {exit} {number} {root} {n} {finished} {top} {count} small waits t g = turn t.fields

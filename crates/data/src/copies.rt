@@ -80,18 +80,12 @@ fn copy_data<S: CellStore>(store: &mut S, number: u32) -> Result<Value, Unfinish
         if count >= limit {
             return Err(Unfinished { waiting, finished });
         }
-        match copy_turn(store, waiting, finished) {
-            Ok(top) => {
-                finished = waiting;
-                waiting = top;
-            }
-            Err(top) => {
-                return Err(Unfinished {
-                    waiting: top,
-                    finished: waiting,
-                });
-            }
-        }
+        let top = copy_turn(store, waiting, finished).map_err(|top| Unfinished {
+            waiting: top,
+            finished: waiting,
+        })?;
+        finished = waiting;
+        waiting = top;
         count += 1;
     }
     Ok(Value::Cell(first))

@@ -18,7 +18,7 @@ pub fn drop_value<S: CellStore>(store: &mut S, value: Value) -> Result<u32, Walk
         let contents = look(store, cell)?;
         let rest = rest_after(todo, contents.spare);
         store.give_back(cell as u16)?;
-        todo = add_fields(store, &contents, rest)?;
+        todo = add_fields(store, contents, rest)?;
         count += 1;
     }
     Ok(count)

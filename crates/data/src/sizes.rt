@@ -20,7 +20,7 @@ pub fn size_of<S: CellStore>(store: &mut S, value: Value) -> Result<u32, WalkRef
         // not by `next_visit`: with the record in a visit a size took up to a fifth longer
         let contents = look(store, next_cell(todo))?;
         let rest = rest_after(todo, contents.spare);
-        todo = add_fields(store, &contents, rest)?;
+        todo = add_fields(store, contents, rest)?;
         count += 1;
     }
     Ok(count)

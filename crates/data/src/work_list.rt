@@ -106,11 +106,11 @@ pub fn add_field<S: CellStore>(store: &mut S, field: Value, todo: Todo) -> Resul
 #[inline(always)]
 pub fn add_fields<S: CellStore>(
     store: &mut S,
-    contents: &CellRecord,
+    contents: CellRecord,
     rest: u32,
 ) -> Result<Todo, WalkRefusal>
-    ensures steps { RowSteps (S.CellStore.cells store.old) (row contents.now) rest result (S.CellStore.cells store.new) }
-    ensures law { AddsAll (S.CellStore.cells store.old) (row contents.now) rest result (S.CellStore.cells store.new) }
+    ensures steps { RowSteps (S.CellStore.cells store.old) (row contents) rest result (S.CellStore.cells store.new) }
+    ensures law { AddsAll (S.CellStore.cells store.old) (row contents) rest result (S.CellStore.cells store.new) }
 {
     let mut todo = Todo {
         value: Value::Unit,

@@ -3,6 +3,6 @@
 #![tactic(auto)]
 
 pub mod seen;
-pub mod shapes;
+mod shapes;
 pub mod told;
 pub mod tour;

@@ -1,3 +1,5 @@
+ghost use Rattle.std.specs.Prelude.{◌≡◌, is_some, IfOk};
+
 use crate::seen::Seen;
 use crate::shapes::{comb, leaning, list, pair, sixes, take, twos};
 use crate::told::Told;
@@ -108,6 +110,7 @@ pub fn walk_all<S: CellStore, C: Fn(&mut S, Value) -> Result<Value, WalkRefusal>
     all: bool,
 ) -> Result<Tour, WalkRefusal>
     requires { C.IsAlwaysCallable copy.now }
+    ensures { IfOk result (λ tour. is_some tour.comb ≡ all) }
 {
     let value = list(store, 30000)?;
     let of_list = walk(store, copy, all, value);
