@@ -1,27 +1,22 @@
 // What a script declares: its datatypes, its functions and its vals.
-use super::types::{push_type, push_types};
+use super::size::{Size, size_at};
+use super::types::{DEPTH, Types};
 use explain::shown;
-use layout::{Constructor, Datatype, Definition, Function, Node, Tables, Val, Word};
+use layout::{Constructor, Datatype, Definition, Function, Tables, Val};
 use names::part;
 use parser::Script;
 use std::io;
 
-// How deep function types nest.
-const DEPTH: usize = 64;
-
 fn print_constructor(
     rt: &HostRuntime,
-    text: &[u8],
-    tables: &Tables,
-    constructor: Constructor,
+    script: &Script<'_>,
+    constructor: &Constructor,
 ) -> io::Result<()> {
-    let name = shown(rt.alloc(), part(text, constructor.name))?;
+    let name = shown(rt.alloc(), part(script.text(), constructor.name))?;
     let mut fields = String::new(rt.alloc());
-    push_types(
-        rt.alloc(),
+    let types = Types::of(rt.alloc(), script);
+    types.push_all(
         &mut fields,
-        text,
-        &tables.types,
         constructor.first as usize,
         constructor.past as usize,
         DEPTH,
@@ -29,71 +24,37 @@ fn print_constructor(
     println!(rt; "  {name} ({fields})")
 }
 
-fn print_datatype(
-    rt: &HostRuntime,
-    text: &[u8],
-    tables: &Tables,
-    datatype: Datatype,
-) -> io::Result<()> {
-    let name = shown(rt.alloc(), part(text, datatype.name))?;
+fn print_datatype(rt: &HostRuntime, script: &Script<'_>, datatype: &Datatype) -> io::Result<()> {
+    let name = shown(rt.alloc(), part(script.text(), datatype.name))?;
     println!(rt; "datatype {name}")?;
-    let first = (datatype.first as usize).min(tables.constructors.len());
-    let past = (datatype.past as usize).min(tables.constructors.len());
-    for i in first..past {
-        print_constructor(rt, text, tables, tables.constructors[i])?;
+    let (first, past) = (datatype.first as usize, datatype.past as usize);
+    for constructor in script.tables().constructors.iter().take(past).skip(first) {
+        print_constructor(rt, script, constructor)?;
     }
     Ok(())
 }
 
-// How many nodes an expression has.
-fn size_at(nodes: &[Node], body: u16) -> usize {
-    let at = body as usize;
-    if at < nodes.len() {
-        (nodes[at].past as usize).saturating_sub(at)
-    } else {
-        0
-    }
-}
-
-fn unit_of(size: usize) -> &'static str {
-    if size == 1 { "node" } else { "nodes" }
-}
-
-fn print_val(rt: &HostRuntime, text: &[u8], nodes: &[Node], val: Val) -> io::Result<()> {
-    let name = shown(rt.alloc(), part(text, val.name))?;
-    let size = size_at(nodes, val.body);
-    let unit = unit_of(size);
-    println!(rt; "val {name}: {size} {unit}")
+fn print_val(rt: &HostRuntime, script: &Script<'_>, val: &Val) -> io::Result<()> {
+    let name = shown(rt.alloc(), part(script.text(), val.name))?;
+    let size = size_at(script.nodes(), val.body);
+    println!(rt; "val {name}: {size}")
 }
 
 // The definition with a number, where there is one.
 fn definition_at(tables: &Tables, number: Option<u16>) -> Definition {
-    match number {
-        Some(k) => if (k as usize) < tables.definitions.len() {
-            tables.definitions[k as usize]
-        } else {
-            Definition::Unused
-        },
-        None => Definition::Unused,
-    }
+    number
+        .and_then(|k| tables.definitions.get(k as usize).copied())
+        .unwrap_or(Definition::Unused)
 }
 
 // The type and the number of nodes of a function, or what is missing.
-fn print_function(
-    rt: &HostRuntime,
-    text: &[u8],
-    tables: &Tables,
-    nodes: &[Node],
-    function: Function,
-) -> io::Result<()> {
-    let name = shown(rt.alloc(), part(text, function.name))?;
+fn print_function(rt: &HostRuntime, script: &Script<'_>, function: &Function) -> io::Result<()> {
+    let name = shown(rt.alloc(), part(script.text(), function.name))?;
+    let tables = script.tables();
     let mut words = String::new(rt.alloc());
     match definition_at(tables, function.annotation) {
-        Definition::Annotation(annotation) => push_type(
-            rt.alloc(),
+        Definition::Annotation(annotation) => Types::of(rt.alloc(), script).push(
             &mut words,
-            text,
-            &tables.types,
             annotation.root as usize,
             DEPTH,
         )?,
@@ -101,9 +62,8 @@ fn print_function(
     }
     match definition_at(tables, function.define) {
         Definition::Define(define) => {
-            let size = size_at(nodes, define.body);
-            let unit = unit_of(size);
-            println!(rt; "function {name}: {words}, {size} {unit}")
+            let size = size_at(script.nodes(), define.body);
+            println!(rt; "function {name}: {words}, {size}")
         }
         _ => println!(rt; "function {name}: {words}, no define"),
     }
@@ -124,22 +84,20 @@ fn print_summary(rt: &HostRuntime, script: &Script<'_>) -> io::Result<()> {
 
 // Prints what a script declares: datatypes and vals in the order of the text, functions as they were first named.
 pub fn print_declared(rt: &HostRuntime, script: &Script<'_>) -> io::Result<()> {
-    let text = script.text();
     let tables = script.tables();
-    let nodes = script.nodes();
-    for i in 0..tables.definitions.len() {
-        if let Definition::Datatype(datatype) = tables.definitions[i] {
-            print_datatype(rt, text, tables, datatype)?;
+    for definition in &tables.definitions {
+        if let Definition::Datatype(datatype) = definition {
+            print_datatype(rt, script, datatype)?;
         }
     }
-    for i in 0..tables.definitions.len() {
-        if let Definition::Val(val) = tables.definitions[i] {
-            print_val(rt, text, nodes, val)?;
+    for definition in &tables.definitions {
+        if let Definition::Val(val) = definition {
+            print_val(rt, script, val)?;
         }
     }
-    let count = tables.functions.count.min(tables.functions.entries.len());
-    for i in 0..count {
-        print_function(rt, text, tables, nodes, tables.functions.entries[i])?;
+    let functions = &tables.functions;
+    for function in functions.entries.iter().take(functions.count) {
+        print_function(rt, script, function)?;
     }
     print_summary(rt, script)
 }

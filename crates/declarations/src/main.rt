@@ -2,6 +2,7 @@
 #![tactic(auto)]
 
 mod declared;
+mod size;
 mod types;
 
 use advice::explain_refusal;
