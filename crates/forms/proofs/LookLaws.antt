@@ -60,11 +60,3 @@ some_token l (list r p ss q) rest f e = f _ _ e
 pub not_closing : (text : List ℕ) (place : ℕ) (o : Option ℕ) → Closes text place o → is_some o ≡ false → NotClosing (lexed_from text place)
 not_closing text place (Some after) c h = absurd (clash cc)
 not_closing text place None c h = c
-
--- Names.
-module _ (text : List ℕ) (place : ℕ) (s : Sexp) (rest : Lexed) (n : Tally) (e : lexed_from text place ≡ stream s rest) (a : Atoms s) where
-  pub name_close : {X : Type 0} (r : Bracket) (w : List ℕ) (p after : ℕ) → Seen text place (kind.Close r) w p after → X
-  name_close r w p after seen = absurd (not_close r p w (lexed_from text after) s rest a (sym seen.follows ∙ e))
-
-  pub name_end : {X : Type 0} → ((t : Lexeme) (more : Lexed) → lexed_from text place ≡ also t more → ⊥) → X
-  name_end f = absurd (some_token (lexed_from text place) s rest f e)

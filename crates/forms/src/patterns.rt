@@ -12,7 +12,7 @@ use super::sight::{Look, closing_at, look_at};
 use text::{Keyword, Refused, TokenKind};
 
 // A pattern's place, and the place behind it.
-#[derive(Clone, Copy)]
+#[derive(Clone, Copy, PartialEq, Eq)]
 pub struct PatternAt {
     pub place: usize,
     pub after: usize,

@@ -1,5 +1,5 @@
 // How much a script has of each.
-#[derive(Clone, Copy)]
+#[derive(Clone, Copy, PartialEq, Eq)]
 pub struct Counts {
     pub nodes: usize,
     pub types: usize,

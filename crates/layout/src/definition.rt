@@ -1,7 +1,7 @@
 // The definitions of a script. Each has the place of its first byte; numbers are those of entries in the tables and the node list.
 use super::Word;
 
-#[derive(Clone, Copy)]
+#[derive(Clone, Copy, PartialEq, Eq)]
 pub struct Datatype {
     pub place: u16,
     pub name: Word,
@@ -10,7 +10,7 @@ pub struct Datatype {
     pub past: u16,
 }
 
-#[derive(Clone, Copy)]
+#[derive(Clone, Copy, PartialEq, Eq)]
 pub struct Constructor {
     pub place: u16,
     pub name: Word,
@@ -23,7 +23,7 @@ pub struct Constructor {
     pub fields: u8,
 }
 
-#[derive(Clone, Copy)]
+#[derive(Clone, Copy, PartialEq, Eq)]
 pub struct Annotation {
     pub place: u16,
     pub name: Word,
@@ -31,7 +31,7 @@ pub struct Annotation {
     pub root: u16,
 }
 
-#[derive(Clone, Copy)]
+#[derive(Clone, Copy, PartialEq, Eq)]
 pub struct Define {
     pub place: u16,
     pub name: Word,
@@ -42,7 +42,7 @@ pub struct Define {
     pub body: u16,
 }
 
-#[derive(Clone, Copy)]
+#[derive(Clone, Copy, PartialEq, Eq)]
 pub struct Val {
     pub place: u16,
     pub name: Word,
@@ -50,7 +50,7 @@ pub struct Val {
     pub body: u16,
 }
 
-#[derive(Clone, Copy)]
+#[derive(Clone, Copy, PartialEq, Eq)]
 pub enum Definition {
     // an entry that no definition uses
     Unused,

@@ -2,14 +2,14 @@
 use super::Word;
 
 // The two halves of a function.
-#[derive(Clone, Copy)]
+#[derive(Clone, Copy, PartialEq, Eq)]
 pub enum Half {
     Annotation,
     Define,
 }
 
 // The numbers of the annotation's and the define's definitions, as far as there are any.
-#[derive(Clone, Copy)]
+#[derive(Clone, Copy, PartialEq, Eq)]
 pub struct Function {
     pub name: Word,
     pub annotation: Option<u16>,

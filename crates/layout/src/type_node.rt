@@ -2,7 +2,7 @@
 // types, then its result type.
 
 // What a type expression is. The name of a datatype is a part of the text: its place is the node's own.
-#[derive(Clone, Copy)]
+#[derive(Clone, Copy, PartialEq, Eq)]
 pub enum TypeForm {
     // an entry that no type expression uses
     Unused,
@@ -15,7 +15,7 @@ pub enum TypeForm {
     Function,
 }
 
-#[derive(Clone, Copy)]
+#[derive(Clone, Copy, PartialEq, Eq)]
 pub struct TypeNode {
     pub form: TypeForm,
     // the place of the first byte

@@ -3,7 +3,7 @@ ghost use Rattle.std.specs.Prelude.{◌≡◌, ℕ, ◌<◌, ◌≤◌, List, []
 ghost use Rattle.names.specs.Indexing.{IsIndex, names_in, Finds};
 ghost use Rattle.names.specs.Parts.{part_of};
 
-use super::parts::{bucket, is_same, part};
+use super::parts::{bucket, part};
 use layout::Word;
 
 // The most names.
@@ -53,7 +53,7 @@ impl Index {
             if k >= below {
                 return None;
             }
-            if is_same(name, part(text, self.names[k])) {
+            if name == part(text, self.names[k]) {
                 return Some(k);
             }
             below = k;

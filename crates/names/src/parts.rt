@@ -1,24 +1,22 @@
 // Names as parts of a text.
-ghost use Rattle.std.specs.Prelude.{◌≡◌, ◌<◌};
-ghost use Rattle.std.specs.Str.{bytes_eq};
+ghost use Rattle.std.specs.Prelude.{◌≡◌, ◌<◌, take, drop};
 ghost use Rattle.names.specs.Parts.{part_of, hashed, bucket_of};
 
 use layout::Word;
+
+// So many bytes of a text from a place on; less where the text ends before they do.
+pub fn cut(text: &[u8], place: usize, size: usize) -> &[u8]
+    ensures { result.now ≡ take size (drop place text.now) }
+{
+    let rest = &text[place.min(text.len())..];
+    &rest[..size.min(rest.len())]
+}
 
 // The part of a text that a word is; less where the text ends before it does.
 pub fn part(text: &[u8], word: Word) -> &[u8]
     ensures { result.now ≡ part_of text.now word }
 {
-    let size = text.len();
-    let from = (word.place as usize).min(size);
-    let past = (word.place as usize + word.size as usize).min(size);
-    &text[from..past]
-}
-
-pub fn is_same(a: &[u8], b: &[u8]) -> bool
-    ensures { result ≡ bytes_eq a.now b.now }
-{
-    a == b
+    cut(text, word.place as usize, word.size as usize)
 }
 
 // In which of the 256 buckets a name lies.

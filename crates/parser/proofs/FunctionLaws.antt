@@ -1,55 +1,17 @@
 -- The table of functions, by lists.
-use Rattle.std.proofs.Common.{◌≡◌, ℕ, zero, suc, ◌+◌, ◌-◌, ◌<◌, ◌≤◌, min, Bool, true, false, cond, ◌⊎◌, List, [], ◌∷◌, ◌++◌, length, get_or, take, drop, set, sym, refl, ap, ◌∙◌, inl, inr, add-one, arith}
-use Rattle.std.proofs.lemmas.List.{take_all, drop_all, drop_more, length-drop, length-take-le, get_or-take, length-set, length-append, take-append-drop, set-append_left, set_split, append_assoc, length-take}
+use Rattle.std.proofs.Common.{◌≡◌, ℕ, zero, suc, ◌+◌, ◌<◌, ◌≤◌, Bool, true, false, cond, ltb, ◌⊎◌, Some, None, Option, List, [], ◌∷◌, ◌++◌, length, get_or, take, drop, set, sym, refl, ap, ◌∙◌, inl, inr, add-one, arith, lt-ltb, le-ltb}
+use Rattle.std.proofs.lemmas.List.{length-take-le, get_or-take, length-set, length-append, take-append-drop, set-append_left, set_split, append_assoc, length-take}
 use Rattle.std.proofs.lemmas.Bool.{cases_lt}
+use Rattle.std.proofs.lemmas.List.Recursion.{is_position_or_len}
+use Rattle.std.specs.List.{position_or_len}
+use Rattle.std.specs.Option.{unwrap_or}
 use Rattle.layout.specs.Tabling.{placed}
 use Rattle.layout.specs.declared.function.Functions.{Functions}
 use Rattle.layout.specs.declared.function.Half.{Half}
 use Rattle.layout.specs.declared.word.Word.{Word}
 use Rattle.parser.specs.Noting.{fits_word, given_word, bare_word, noted_in, position}
 
--- a part of a list, cut to the list
-pub cut_part : (xs : List ℕ) (p n from past : ℕ) → from ≡ min p (length xs) → past ≡ min (p + n) (length xs) → take (past - from) (drop from xs) ≡ take n (drop p xs)
-cut_part xs p n from past ef ep = within (cases_lt p (length xs)) (cases_lt (p + n) (length xs))
-  where
-    inside : from ≡ p → past ≡ p + n → take (past - from) (drop from xs) ≡ take n (drop p xs)
-    inside f e = let d : past - from ≡ n = omega arith in ap (λ m. take m (drop from xs)) d ∙ ap (λ j. take n (drop j xs)) f
-
-    over : from ≡ p → past ≡ length xs → length xs ≤ p + n → take (past - from) (drop from xs) ≡ take n (drop p xs)
-    over f e h =
-        let size = length-drop p xs in
-        ap (λ j. take (past - from) (drop j xs)) f ∙ take_all (past - from) (drop p xs) (omega arith) ∙ sym (take_all n (drop p xs) (omega arith))
-
-    behind : from ≡ length xs → past ≡ length xs → length xs ≤ p → take (past - from) (drop from xs) ≡ take n (drop p xs)
-    behind f e h =
-        let none : drop p xs ≡ [] = drop_all p xs h in
-        let zero_is : past - from ≡ 0 = omega arith in
-        let size = length-drop p xs in
-        ap (λ m. take m (drop from xs)) zero_is ∙ sym (take_all n (drop p xs) (omega arith) ∙ none)
-
-    within : (p < length xs) ⊎ (length xs ≤ p) → (p + n < length xs) ⊎ (length xs ≤ p + n) → take (past - from) (drop from xs) ≡ take n (drop p xs)
-    within (inl h) (inl k) = inside (omega arith) (omega arith)
-    within (inl h) (inr k) = over (omega arith) (omega arith) k
-    within (inr h) k = behind (omega arith) (omega arith) h
-
 module _ {E : Type 0} (test : E → Bool) where
-  -- the test of one entry more, of those that are used
-  module _ (entries : List E) (count i : ℕ) (d : E) (most : count ≤ length entries) (h : i < count) where
-    long : length (take count entries) ≡ count
-    long = length-take-le count entries most
-
-    next : drop i (take count entries) ≡ get_or entries i d ∷ drop (i + 1) (take count entries)
-    next = let size = long in drop_more (take count entries) i d (omega arith) ∙ ap (λ x. x ∷ drop (i + 1) (take count entries)) (get_or-take count entries i d h)
-
-    pub position_hit : test (get_or entries i d) ≡ true → position test (drop i (take count entries)) ≡ 0
-    position_hit t = ap (position test) next ∙ rw t refl
-
-    pub position_miss : test (get_or entries i d) ≡ false → position test (drop i (take count entries)) ≡ 1 + position test (drop (i + 1) (take count entries))
-    position_miss t = ap (position test) next ∙ rw t (omega arith)
-
-  pub position_none : (xs : List E) (i : ℕ) → length xs ≤ i → position test (drop i xs) ≡ 0
-  position_none xs i h = ap (position test) (drop_all i xs h)
-
   pub position_within : (xs : List E) → position test xs ≤ length xs
   position_within [] = omega arith
   position_within (x ∷ xs) = go (test x) (position_within xs)
@@ -57,6 +19,23 @@ module _ {E : Type 0} (test : E → Bool) where
       go : (b : Bool) → position test xs ≤ length xs → cond b zero (suc (position test xs)) ≤ suc (length xs)
       go true h = omega arith
       go false h = omega arith
+
+  -- the number of the first that passes, as the library finds it
+  pub position_or : (xs : List E) (n : ℕ) → n ≡ length xs → (o : Option ℕ) → o ≡ cond (ltb (position_or_len test xs) (length xs)) (Some (position_or_len test xs)) None → unwrap_or o n ≡ position test xs
+  position_or xs n e o is = go (cases_lt (position test xs) (length xs))
+    where
+      same : position test xs ≡ position_or_len test xs
+      same = is_position_or_len (position test) test refl (λ y ys. let up : suc (position test ys) ≡ 1 + position test ys = omega arith in ap (λ m. cond (test y) 0 m) up) xs
+
+      turned : o ≡ cond (ltb (position test xs) (length xs)) (Some (position test xs)) None
+      turned = is ∙ ap (λ p. cond (ltb p (length xs)) (Some p) None) (sym same)
+
+      go : (position test xs < length xs) ⊎ (length xs ≤ position test xs) → unwrap_or o n ≡ position test xs
+      go (inl h) = ap (λ x. unwrap_or x n) (turned ∙ ap (λ b. cond b (Some (position test xs)) None) (lt-ltb (position test xs) (length xs) h))
+      go (inr h) =
+          let most = position_within xs in
+          let end : n ≡ position test xs = omega arith in
+          ap (λ x. unwrap_or x n) (turned ∙ ap (λ b. cond b (Some (position test xs)) None) (le-ltb (position test xs) (length xs) h)) ∙ end
 
   module _ (fill : E → E) (new : E) where
     -- what fits is filled in its place

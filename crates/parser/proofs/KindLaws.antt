@@ -28,35 +28,35 @@ clash : ◌≡◌ {A = ℕ} 0 1 → ⊥
 clash z = omega arith
 
 -- a list with its kind and its form
-pub data View : Sexps → DefinitionKind → DefinitionForm → Type 0 where
-  is_datatype : {h x y : Sexp} → View (cons h (cons x (cons y nil))) kind.Datatype (datatype_form_rule x y)
-  is_annotation : {h x y : Sexp} → View (cons h (cons x (cons y nil))) kind.Annotation (annotation_form_rule x y)
-  is_define : {h x y z : Sexp} → View (cons h (cons x (cons y (cons z nil)))) kind.Define (define_form_rule x y z)
-  is_val : {h x y : Sexp} → View (cons h (cons x (cons y nil))) kind.Val (val_form_rule x y)
-  is_wrong : {ss : Sexps} → View ss kind.Wrong no_definition
+pub data View : Sexps → Option DefinitionKind → DefinitionForm → Type 0 where
+  is_datatype : {h x y : Sexp} → View (cons h (cons x (cons y nil))) (Some kind.Datatype) (datatype_form_rule x y)
+  is_annotation : {h x y : Sexp} → View (cons h (cons x (cons y nil))) (Some kind.Annotation) (annotation_form_rule x y)
+  is_define : {h x y z : Sexp} → View (cons h (cons x (cons y (cons z nil)))) (Some kind.Define) (define_form_rule x y z)
+  is_val : {h x y : Sexp} → View (cons h (cons x (cons y nil))) (Some kind.Val) (val_form_rule x y)
+  is_wrong : {ss : Sexps} → View ss None no_definition
 
 four : (n : ℕ) → eqb (min 7 (suc (suc (suc (suc n))))) 3 ≡ false
 four n = ne_eqb (min 7 (suc (suc (suc (suc n))))) 3 (λ z. omega arith)
 
-datatype_view : (h : Sexp) (es : Sexps) → View (cons h es) (cond (eqb (min 7 (suc (count es))) 3) kind.Datatype kind.Wrong) (datatype_form (two_of es))
+datatype_view : (h : Sexp) (es : Sexps) → View (cons h es) (cond (eqb (min 7 (suc (count es))) 3) (Some kind.Datatype) None) (datatype_form (two_of es))
 datatype_view h nil = is_wrong
 datatype_view h (cons a nil) = is_wrong
 datatype_view h (cons a (cons b nil)) = is_datatype
 datatype_view h (cons a (cons b (cons c es))) = rw (four (count es)) is_wrong
 
-annotation_view : (h : Sexp) (es : Sexps) → View (cons h es) (cond (eqb (min 7 (suc (count es))) 3) kind.Annotation kind.Wrong) (annotation_form (two_of es))
+annotation_view : (h : Sexp) (es : Sexps) → View (cons h es) (cond (eqb (min 7 (suc (count es))) 3) (Some kind.Annotation) None) (annotation_form (two_of es))
 annotation_view h nil = is_wrong
 annotation_view h (cons a nil) = is_wrong
 annotation_view h (cons a (cons b nil)) = is_annotation
 annotation_view h (cons a (cons b (cons c es))) = rw (four (count es)) is_wrong
 
-val_view : (h : Sexp) (es : Sexps) → View (cons h es) (cond (eqb (min 7 (suc (count es))) 3) kind.Val kind.Wrong) (val_form (two_of es))
+val_view : (h : Sexp) (es : Sexps) → View (cons h es) (cond (eqb (min 7 (suc (count es))) 3) (Some kind.Val) None) (val_form (two_of es))
 val_view h nil = is_wrong
 val_view h (cons a nil) = is_wrong
 val_view h (cons a (cons b nil)) = is_val
 val_view h (cons a (cons b (cons c es))) = rw (four (count es)) is_wrong
 
-define_view : (h : Sexp) (es : Sexps) → View (cons h es) (cond (eqb (min 7 (suc (count es))) 4) kind.Define kind.Wrong) (define_form (three_of es))
+define_view : (h : Sexp) (es : Sexps) → View (cons h es) (cond (eqb (min 7 (suc (count es))) 4) (Some kind.Define) None) (define_form (three_of es))
 define_view h nil = is_wrong
 define_view h (cons a nil) = is_wrong
 define_view h (cons a (cons b nil)) = is_wrong
@@ -68,7 +68,7 @@ headed_view None h es = is_wrong
 headed_view (Some k) h es = go (is_key k keyword.Datatype) (is_key k keyword.Colon) (is_key k keyword.Define) (is_key k keyword.Val)
   where
     go : (a b c d : Bool) → View (cons h es)
-        (cond a (cond (eqb (min 7 (suc (count es))) 3) kind.Datatype kind.Wrong) (cond b (cond (eqb (min 7 (suc (count es))) 3) kind.Annotation kind.Wrong) (cond c (cond (eqb (min 7 (suc (count es))) 4) kind.Define kind.Wrong) (cond d (cond (eqb (min 7 (suc (count es))) 3) kind.Val kind.Wrong) kind.Wrong))))
+        (cond a (cond (eqb (min 7 (suc (count es))) 3) (Some kind.Datatype) None) (cond b (cond (eqb (min 7 (suc (count es))) 3) (Some kind.Annotation) None) (cond c (cond (eqb (min 7 (suc (count es))) 4) (Some kind.Define) None) (cond d (cond (eqb (min 7 (suc (count es))) 3) (Some kind.Val) None) None))))
         (cond a (datatype_form (two_of es)) (cond b (annotation_form (two_of es)) (cond c (define_form (three_of es)) (cond d (val_form (two_of es)) no_definition))))
     go true b c d = datatype_view h es
     go false true c d = annotation_view h es
@@ -81,12 +81,12 @@ view nil = is_wrong
 view (cons h es) = headed_view (head_of h) h es
 
 -- a definition has a reserved word at its head
-abbrev wordy : DefinitionKind → Bool
-wordy kind.Datatype = true
-wordy kind.Annotation = true
-wordy kind.Define = true
-wordy kind.Val = true
-wordy kind.Wrong = false
+abbrev wordy : Option DefinitionKind → Bool
+wordy (Some kind.Datatype) = true
+wordy (Some kind.Annotation) = true
+wordy (Some kind.Define) = true
+wordy (Some kind.Val) = true
+wordy None = false
 
 head_behind : (text : List ℕ) (place inside n : ℕ) (h : Sexp) (es : Sexps) (shape : Bracket) (q : ℕ) (rest : Lexed) → Behind text place inside → lexed_from text place ≡ closed_by (cons h es) shape q rest
     → wordy (definition_kind (first_head (cons h es)) n) ≡ true → lexed_from text inside ≡ closed_by es shape q rest
@@ -96,7 +96,7 @@ head_behind text place inside n (list r p ss q') es shape q rest b e t = absurd 
 -- What is told of each kind from behind the reserved word is told of the definition.
 module _ (text : List ℕ) (place entries : ℕ) (t : Tables) (ns : List Node) (b : Bracket) (w : List ℕ) (p inside : ℕ) (seen : Seen text place (token.Open b) w p inside) (survey : Survey) (surveyed_is : survey ≡ surveyed (lexed_from text inside))
     (first : ℕ) (skip : Behind text inside first) (r : Result ℕ Refused) (t' : Tables) (ns' : List Node) where
-  by_kind : (k : DefinitionKind) → k ≡ definition_kind survey.head survey.parts
+  by_kind : (k : Option DefinitionKind) → k ≡ definition_kind survey.head survey.parts
       → ((ss : Sexps) (f : DefinitionForm) → View ss k f → k ≡ definition_kind (first_head ss) (min 7 (count ss)) → OnParts text inside t ns ss (read_definition_form entries p f) r t' ns')
       → OnDefinition text place t ns (read_definition entries) r t' ns'
   by_kind k is h s rest n e a u =
@@ -105,32 +105,32 @@ module _ (text : List ℕ) (place entries : ℕ) (t : Tables) (ns : List Node) (
       subst (λ o. ToldDefinition text rest t ns o r t' ns') (sym (ap (λ s. read_definition entries s n) l.is))
       (h l.parts (definition_of l.parts) (subst (λ k. View l.parts k (definition_of l.parts)) (sym same) (view l.parts)) same l.shape l.end rest n l.inside l.atoms u)
 
-  pub on_datatype : kind.Datatype ≡ definition_kind survey.head survey.parts → ((x y : Sexp) → OnParts text first t ns (cons x (cons y nil)) (read_definition_form entries p (datatype_form_rule x y)) r t' ns') → OnDefinition text place t ns (read_definition entries) r t' ns'
-  on_datatype is told = by_kind kind.Datatype is go
+  pub on_datatype : Some kind.Datatype ≡ definition_kind survey.head survey.parts → ((x y : Sexp) → OnParts text first t ns (cons x (cons y nil)) (read_definition_form entries p (datatype_form_rule x y)) r t' ns') → OnDefinition text place t ns (read_definition entries) r t' ns'
+  on_datatype is told = by_kind (Some kind.Datatype) is go
     where
-      go : (ss : Sexps) (f : DefinitionForm) → View ss kind.Datatype f → kind.Datatype ≡ definition_kind (first_head ss) (min 7 (count ss)) → OnParts text inside t ns ss (read_definition_form entries p f) r t' ns'
+      go : (ss : Sexps) (f : DefinitionForm) → View ss (Some kind.Datatype) f → Some kind.Datatype ≡ definition_kind (first_head ss) (min 7 (count ss)) → OnParts text inside t ns ss (read_definition_form entries p f) r t' ns'
       go _ _ (is_datatype {h = h} {x = x} {y = y}) same shape q rest n e a u = told x y shape q rest n (head_behind text inside first 3 h (cons x (cons y nil)) shape q rest skip e (sym (ap wordy same))) a.1 u
 
-  pub on_annotation : kind.Annotation ≡ definition_kind survey.head survey.parts → ((x y : Sexp) → OnParts text first t ns (cons x (cons y nil)) (read_definition_form entries p (annotation_form_rule x y)) r t' ns') → OnDefinition text place t ns (read_definition entries) r t' ns'
-  on_annotation is told = by_kind kind.Annotation is go
+  pub on_annotation : Some kind.Annotation ≡ definition_kind survey.head survey.parts → ((x y : Sexp) → OnParts text first t ns (cons x (cons y nil)) (read_definition_form entries p (annotation_form_rule x y)) r t' ns') → OnDefinition text place t ns (read_definition entries) r t' ns'
+  on_annotation is told = by_kind (Some kind.Annotation) is go
     where
-      go : (ss : Sexps) (f : DefinitionForm) → View ss kind.Annotation f → kind.Annotation ≡ definition_kind (first_head ss) (min 7 (count ss)) → OnParts text inside t ns ss (read_definition_form entries p f) r t' ns'
+      go : (ss : Sexps) (f : DefinitionForm) → View ss (Some kind.Annotation) f → Some kind.Annotation ≡ definition_kind (first_head ss) (min 7 (count ss)) → OnParts text inside t ns ss (read_definition_form entries p f) r t' ns'
       go _ _ (is_annotation {h = h} {x = x} {y = y}) same shape q rest n e a u = told x y shape q rest n (head_behind text inside first 3 h (cons x (cons y nil)) shape q rest skip e (sym (ap wordy same))) a.1 u
 
-  pub on_define : kind.Define ≡ definition_kind survey.head survey.parts → ((x y z : Sexp) → OnParts text first t ns (cons x (cons y (cons z nil))) (read_definition_form entries p (define_form_rule x y z)) r t' ns') → OnDefinition text place t ns (read_definition entries) r t' ns'
-  on_define is told = by_kind kind.Define is go
+  pub on_define : Some kind.Define ≡ definition_kind survey.head survey.parts → ((x y z : Sexp) → OnParts text first t ns (cons x (cons y (cons z nil))) (read_definition_form entries p (define_form_rule x y z)) r t' ns') → OnDefinition text place t ns (read_definition entries) r t' ns'
+  on_define is told = by_kind (Some kind.Define) is go
     where
-      go : (ss : Sexps) (f : DefinitionForm) → View ss kind.Define f → kind.Define ≡ definition_kind (first_head ss) (min 7 (count ss)) → OnParts text inside t ns ss (read_definition_form entries p f) r t' ns'
+      go : (ss : Sexps) (f : DefinitionForm) → View ss (Some kind.Define) f → Some kind.Define ≡ definition_kind (first_head ss) (min 7 (count ss)) → OnParts text inside t ns ss (read_definition_form entries p f) r t' ns'
       go _ _ (is_define {h = h} {x = x} {y = y} {z = z}) same shape q rest n e a u = told x y z shape q rest n (head_behind text inside first 4 h (cons x (cons y (cons z nil))) shape q rest skip e (sym (ap wordy same))) a.1 u
 
-  pub on_val : kind.Val ≡ definition_kind survey.head survey.parts → ((x y : Sexp) → OnParts text first t ns (cons x (cons y nil)) (read_definition_form entries p (val_form_rule x y)) r t' ns') → OnDefinition text place t ns (read_definition entries) r t' ns'
-  on_val is told = by_kind kind.Val is go
+  pub on_val : Some kind.Val ≡ definition_kind survey.head survey.parts → ((x y : Sexp) → OnParts text first t ns (cons x (cons y nil)) (read_definition_form entries p (val_form_rule x y)) r t' ns') → OnDefinition text place t ns (read_definition entries) r t' ns'
+  on_val is told = by_kind (Some kind.Val) is go
     where
-      go : (ss : Sexps) (f : DefinitionForm) → View ss kind.Val f → kind.Val ≡ definition_kind (first_head ss) (min 7 (count ss)) → OnParts text inside t ns ss (read_definition_form entries p f) r t' ns'
+      go : (ss : Sexps) (f : DefinitionForm) → View ss (Some kind.Val) f → Some kind.Val ≡ definition_kind (first_head ss) (min 7 (count ss)) → OnParts text inside t ns ss (read_definition_form entries p f) r t' ns'
       go _ _ (is_val {h = h} {x = x} {y = y}) same shape q rest n e a u = told x y shape q rest n (head_behind text inside first 3 h (cons x (cons y nil)) shape q rest skip e (sym (ap wordy same))) a.1 u
 
-  pub on_wrong : kind.Wrong ≡ definition_kind survey.head survey.parts → r ≡ Err (refused_at refusal.Form p) → OnDefinition text place t ns (read_definition entries) r t' ns'
-  on_wrong is is_r = by_kind kind.Wrong is go
+  pub on_wrong : None ≡ definition_kind survey.head survey.parts → r ≡ Err (refused_at refusal.Form p) → OnDefinition text place t ns (read_definition entries) r t' ns'
+  on_wrong is is_r = by_kind None is go
     where
-      go : (ss : Sexps) (f : DefinitionForm) → View ss kind.Wrong f → kind.Wrong ≡ definition_kind (first_head ss) (min 7 (count ss)) → OnParts text inside t ns ss (read_definition_form entries p f) r t' ns'
+      go : (ss : Sexps) (f : DefinitionForm) → View ss None f → None ≡ definition_kind (first_head ss) (min 7 (count ss)) → OnParts text inside t ns ss (read_definition_form entries p f) r t' ns'
       go _ _ is_wrong same shape q rest n e a u = is_r

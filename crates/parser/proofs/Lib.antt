@@ -8,3 +8,4 @@ pub mod KindLaws
 pub mod WholeLaws
 pub mod TableLaws
 pub mod ReadLaws
+pub mod ScriptLaws

@@ -1,12 +1,10 @@
 -- Names, and lists of them.
 use Rattle.std.proofs.Common.{◌≡◌, ℕ, ◌+◌, ◌-◌, ◌<◌, ◌≤◌, Bool, true, false, cond, ltb, List, ◌∷◌, map, length, set, Some, Ok, Err, Result, sym, refl, ap, ◌∙◌, subst, add-zero, arith, le-ltb, lt-ltb}
-use Rattle.text.specs.Grammar.{NoBracket}
 use Rattle.text.specs.Scans.{refused_at}
 use Rattle.text.specs.Tokens.{Lexed, lexed_from}
 use Rattle.text.specs.declared.bracket.Bracket.{Bracket}
 use Rattle.text.specs.declared.refusal.Refused.{Refused}
 use Rattle.text.specs.declared.refusal.Refusal.TheVariants as refusal
-use Rattle.text.specs.declared.token.TokenKind.{TokenKind}
 use Rattle.text.specs.declared.token.TokenKind.TheVariants as kind
 use Rattle.grammar.specs.Reading.{Tally, Outcome, refused, made, and_then, name_read, ident, read_parameters, read_parameter_list}
 use Rattle.grammar.specs.Sexps.{Sexp, atom, list, cons, place, Atoms, AllAtoms}
@@ -14,13 +12,13 @@ use Rattle.grammar.specs.Streams.{stream}
 use Rattle.grammar.specs.Trees.{Ident}
 use Rattle.layout.specs.Words.{word_at, word}
 use Rattle.layout.specs.declared.word.Word.{Word}
-use Rattle.parser.specs.Listing.{GoesNames, ToldNames, OnNames, OnNameList}
+use Rattle.parser.specs.Listing.{ToldNames, OnNames, OnNameList}
 use Rattle.forms.specs.Looks.{Seen, Named, NotClosing, Closes}
 use Rattle.forms.specs.Progress.{puts}
 use Rattle.forms.specs.Rows.{closed_by}
 use Rattle.forms.specs.declared.names.NameAt.{NameAt}
 use Rattle.forms.specs.declared.spot.Spot.{Spot}
-use Rattle.forms.proofs.LookLaws.{is_atom, is_list}
+use Rattle.forms.proofs.LookLaws.{is_list}
 use Rattle.forms.proofs.RowLaws.{left_none, left_some}
 
 clash : ◌≡◌ {A = ℕ} 0 1 → ⊥
@@ -131,10 +129,6 @@ module _ (text : List ℕ) (entries : ℕ) (at : Spot) (now : List Word) (k : �
 abbrev pub CarriesNames : List ℕ → Spot → List Word → Spot → List Word → Type 0
 CarriesNames text from ws at now = (entries : ℕ) (r : Result Spot Refused) (after : List Word) → OnNames text at now (read_parameters entries (at.used - from.used)) r after → OnNames text from ws (read_parameters entries 0) r after
 
-pub goes_names : (text : List ℕ) (spot : Spot) (inside : ℕ) (r : Result Spot Refused) → spot.place ≤ inside → GoesNames text (record { place = inside; used = spot.used }) r → GoesNames text spot r
-goes_names text spot inside (Ok end) h g = let a = g.0 in (omega arith, g.1, g.2, g.3)
-goes_names text spot inside (Err x) h g = tt
-
 -- A list of names in brackets.
 pub names_list : (text : List ℕ) (spot : Spot) (ws : List Word) (entries : ℕ) (k : Bracket) (w : List ℕ) (p inside : ℕ) (r : Result Spot Refused) (after : List Word) → Seen text spot.place (kind.Open k) w p inside
     → OnNames text (record { place = inside; used = spot.used }) ws (read_parameters entries 0) r after → OnNameList text spot ws (read_parameter_list entries) r after
@@ -146,9 +140,3 @@ names_list text spot ws entries k w p inside r after seen told s rest n e a =
     again (refused x) r t = t
     again (made xs m) (Ok end) t = t
     again (made xs m) (Err x) t = t
-
-pub names_atom : (text : List ℕ) (spot : Spot) (ws : List Word) (entries : ℕ) (k : TokenKind) (w : List ℕ) (p behind : ℕ) (x : Refused) (after : List Word) → Seen text spot.place k w p behind → NoBracket k
-    → x ≡ refused_at refusal.Form p → OnNameList text spot ws (read_parameter_list entries) (Err x) after
-names_atom text spot ws entries k w p behind x after seen nb is s rest n e a =
-    let l = is_atom k p w (lexed_from text behind) s rest nb (sym seen.follows ∙ e) in
-    subst (λ s. ToldNames text rest spot ws (read_parameter_list entries s n) (Err x) after) (sym l.0) (ap Err is)

@@ -23,7 +23,8 @@ use Rattle.layout.proofs.InText.{NameIn, DefinitionIn, ScriptIn}
 use Rattle.layout.proofs.ScriptStanding.{length_definition, length_constructed, length_typed, length_nodes}
 use Rattle.forms.specs.Progress.{puts}
 use Rattle.parser.specs.Defining.{Bounded, noted_with, noted_with_all, Defined}
-use Rattle.parser.specs.Noting.{part_of, fits_word, given_word, bare_word, noted_in}
+use Rattle.names.specs.Parts.{part_of}
+use Rattle.parser.specs.Noting.{fits_word, given_word, bare_word, noted_in}
 
 -- Entries written from the start into unused ones stand before the others.
 module _ {E : Type 0} (x : E) where

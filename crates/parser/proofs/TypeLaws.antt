@@ -1,5 +1,5 @@
 -- What each reader of types tells, by what the readers that it calls tell.
-use Rattle.std.proofs.Common.{◌≡◌, ℕ, zero, suc, ◌+◌, ◌-◌, ◌<◌, ◌≤◌, min, Bool, true, false, cond, eqb, ltb, List, [], ◌∷◌, ◌++◌, length, set, IfOk, Some, None, Ok, Err, Option, Result, sym, refl, ap, ◌∙◌, subst, add-zero, arith, le-ltb, lt-ltb, ne_eqb}
+use Rattle.std.proofs.Common.{◌≡◌, ℕ, zero, suc, ◌+◌, ◌-◌, ◌<◌, ◌≤◌, min, Bool, true, false, cond, eqb, ltb, List, [], ◌∷◌, ◌++◌, length, set, Some, None, Ok, Err, Option, Result, sym, refl, ap, ◌∙◌, subst, add-zero, arith, le-ltb, lt-ltb, ne_eqb}
 use Rattle.text.specs.Grammar.{NoBracket, Spelt}
 use Rattle.text.specs.Scans.{refused_at}
 use Rattle.text.specs.Tokens.{Lexed, lexed_from}
@@ -13,7 +13,6 @@ use Rattle.text.specs.declared.token.TokenKind.TheVariants as kind
 use Rattle.grammar.specs.Forms.{is_key, kind_head, Two, two, not_two, two_of, arrowed, arrow_of}
 use Rattle.grammar.specs.Limits.{type_count, types_count}
 use Rattle.forms.specs.Looks.{Seen, NotClosing, Closes, Behind}
-use Rattle.forms.specs.Progress.{puts}
 use Rattle.grammar.specs.Reading.{Tally, Outcome, refused, made, and_then, wrong, over_limit, count_type, keyword_type, atom_type, type_atom, is_some, is_two, type_shaped, read_types, read_type_list, read_arrow, read_type}
 use Rattle.forms.specs.Rows.{closed_by}
 use Rattle.grammar.specs.Sexps.{Sexp, atom, list, Sexps, nil, cons, place, AllAtoms}
@@ -21,7 +20,7 @@ use Rattle.grammar.specs.Streams.{stream, count, first_head}
 use Rattle.forms.specs.Surveys.{surveyed}
 use Rattle.grammar.specs.Trees.{TypeExpr, int_type, bool_type, sym_type, unit_type, datatype, function_type_rule, TypeExprs, and_type}
 use Rattle.layout.specs.TypeEncoding.{node_of_type, encode_type, encode_types}
-use Rattle.parser.specs.TypeParts.{keyword_type_form, type_form, claimed_type, arrow_head, over_many, Seventh, GoesType, GoesTypes, ToldType, OnType, OnTypeList, OnTypes}
+use Rattle.parser.specs.TypeParts.{keyword_type_form, type_form, claimed_type, arrow_head, over_many, Seventh, ToldType, OnType, OnTypeList, OnTypes}
 use Rattle.forms.specs.declared.spot.Spot.{Spot}
 use Rattle.forms.specs.declared.survey.Survey.{Survey}
 use Rattle.layout.specs.declared.type_node.TypeNode.{TypeNode}
@@ -36,19 +35,6 @@ use Rattle.forms.proofs.ToldLaws.{told_join, told_stop, told_before, told_refuse
 
 clash : ◌≡◌ {A = ℕ} 0 1 → ⊥
 clash z = omega arith
-
--- Where reading stands afterwards.
-pub type_back : (text : List ℕ) (spot at : Spot) (r : Result Spot Refused) → spot.place ≤ at.place → spot.used ≤ at.used → GoesType text at r → GoesType text spot r
-type_back text spot at (Ok end) h k g = let a = g.0 in let b = g.2 in (omega arith, g.1, omega arith, g.3)
-type_back text spot at (Err x) h k g = tt
-
-pub types_back : (text : List ℕ) (spot at : Spot) (r : Result Spot Refused) → spot.place ≤ at.place → spot.used ≤ at.used → GoesTypes text at r → GoesTypes text spot r
-types_back text spot at (Ok end) h k g = let a = g.0 in let b = g.2 in (omega arith, g.1, omega arith, g.3)
-types_back text spot at (Err x) h k g = tt
-
-pub type_single : (text : List ℕ) (spot : Spot) (after : ℕ) (r : Result Spot Refused) → IfOk r (λ end. (end.place ≡ after) × (spot.used < end.used) × (end.used ≤ 512)) → spot.place < after → after ≤ length text → GoesType text spot r
-type_single text spot after (Ok end) h f w = let here = h.0 in (omega arith, omega arith, h.1, h.2)
-type_single text spot after (Err x) h f w = tt
 
 -- the tally's count of type expressions
 abbrev counted : Tally → ℕ
@@ -71,13 +57,6 @@ denied {A} used p x n next e h = go (ltb used 512) refl h
     go : (b : Bool) → ltb used 512 ≡ b → ◌≡◌ {A = Result ℕ Refused} (cond b (Ok (used + 1)) (Err (refused_at refusal.Limit p))) (Err x) → count_type p n next ≡ refused x
     go true t h = absurd (clash cc)
     go false t h = let t' : ltb n.types 512 ≡ false = ap (λ u. ltb u 512) e ∙ t in let q : refused_at refusal.Limit p ≡ x = cc in rw t' (ap refused q)
-
-pub granted_one : (used p m : ℕ) → claimed_type used p ≡ Ok m → m ≡ used + 1
-granted_one used p m h = go (ltb used 512) h
-  where
-    go : (b : Bool) → ◌≡◌ {A = Result ℕ Refused} (cond b (Ok (used + 1)) (Err (refused_at refusal.Limit p))) (Ok m) → m ≡ used + 1
-    go true h = cc
-    go false h = absurd (clash cc)
 
 -- A token that is no type, and one that is, with its entry.
 no_keyword : (k : Keyword) (p : ℕ) → keyword_type_form k ≡ None → keyword_type k p ≡ None
@@ -148,23 +127,6 @@ module _ (text w : List ℕ) (k : TokenKind) (place after used : ℕ) (f : TypeF
     (spelt : Spelt k w) (some : Some f ≡ type_form k (length w)) (same : n.types ≡ used) where
   leaf : Leaf k place w f
   leaf = a_leaf k place w f spelt (sym some)
-
-  pub single_denied : (x : Refused) → claimed_type used place ≡ Err x → ToldType text rest (record { place = place; used = used }) ts (encode_type used) (type_atom place (atom_type k place w) n) (Err x) ts
-  single_denied x e =
-      let l = leaf in
-      let d = denied used place x n (λ n. made l.type n) same e in
-      subst (λ o. ToldType text rest (record { place = place; used = used }) ts (encode_type used) o (Err x) ts) (sym (ap (λ o. type_atom place o n) l.is ∙ d)) refl
-
-  pub single_granted : (m : ℕ) → lexed_from text after ≡ rest → claimed_type used place ≡ Ok m
-      → ToldType text rest (record { place = place; used = used }) ts (encode_type used) (type_atom place (atom_type k place w) n) (Ok (record { place = after; used = m })) (set ts used (node_of_type f place m))
-  single_granted m there e =
-      let l = leaf in
-      let g = granted used place m n (λ n. made l.type n) same e in
-      let m_is = g.0 in
-      let lies : encode_type used l.type ≡ node_of_type f place (used + 1) ∷ [] = l.lies used in
-      subst (λ o. ToldType text rest (record { place = place; used = used }) ts (encode_type used) o (Ok (record { place = after; used = m })) (set ts used (node_of_type f place m)))
-      (sym (ap (λ o. type_atom place o n) l.is ∙ g.1))
-      (omega arith, omega (arith, ap length lies), there, ap (λ p. set ts used (node_of_type f place p)) m_is ∙ sym (ap (puts ts used) lies))
 
 -- A function type has a word at its head, and two parts behind it.
 data View : Sexps → Bool → Two → Type 0 where
@@ -291,12 +253,6 @@ list_open text spot ts read k w p inside r after seen told s rest n e a u =
     (told_spot counted text rest (record { place = inside; used = spot.used }) spot ts (encode_types spot.used) (read_types read 0 l.parts n) r after refl
     (told l.parts l.shape l.end rest n l.inside l.atoms u))
 
-pub list_atom : (text : List ℕ) (spot : Spot) (ts : List TypeNode) (read : Sexp → Tally → Outcome TypeExpr) (k : TokenKind) (w : List ℕ) (p behind : ℕ) (x : Refused) (after : List TypeNode) → Seen text spot.place k w p behind → NoBracket k
-    → x ≡ refused_at refusal.Form p → OnType text spot ts encode_types (read_type_list read) (Err x) after
-list_atom text spot ts read k w p behind x after seen nb is s rest n e a u =
-    let l = is_atom k p w (lexed_from text behind) s rest nb (sym seen.follows ∙ e) in
-    subst (λ s. ToldType text rest spot ts (encode_types spot.used) (read_type_list read s n) (Err x) after) (sym l.0) (ap Err is)
-
 -- The closing bracket behind the last part, or none.
 told_close : {A : Type 0} (text : List ℕ) (shape : Bracket) (q : ℕ) (rest : Lexed) (spot end : Spot) (ts now : List TypeNode) (f : A → List TypeNode) (o : Outcome A) (after : ℕ) → Closes text end.place (Some after)
     → ToldType text (closed_by nil shape q rest) spot ts f o (Ok end) now → ToldType text rest spot ts f o (Ok (record { place = after; used = end.used })) now
@@ -405,12 +361,6 @@ type_depth zero shape p ss q n h = absurd (clash (omega arith))
 type_depth (suc d) shape p ss q n h = let same : d ≡ suc d - 1 = omega arith in ap (λ j. read_arrow (read_type j) p (arrow_of ss) n) same
 
 module _ (text : List ℕ) (spot : Spot) (ts : List TypeNode) (k : Bracket) (w : List ℕ) (p inside : ℕ) (seen : Seen text spot.place (kind.Open k) w p inside) (depth : ℕ) where
-  pub type_deep : (x : Refused) (now : List TypeNode) → depth ≡ 0 → x ≡ refused_at refusal.Form p → OnType text spot ts encode_type (read_type depth) (Err x) now
-  type_deep x now d is_x s rest n e a u =
-      let l = is_list k p w (lexed_from text inside) s rest a (sym seen.follows ∙ e) in
-      subst (λ s. ToldType text rest spot ts (encode_type spot.used) (read_type depth s n) (Err x) now) (sym l.is)
-      (subst (λ d. ToldType text rest spot ts (encode_type spot.used) (read_type d (list l.shape p l.parts l.end) n) (Err x) now) (sym d) (ap Err is_x))
-
   module _ (survey : Survey) (b : Bool) (surveyed_is : survey ≡ surveyed (lexed_from text inside)) (b_is : b ≡ arrow_head survey.head survey.parts) (deep : 0 < depth) where
     pub type_wrong : (x : Refused) (now : List TypeNode) → b ≡ false → x ≡ refused_at refusal.Form p → OnType text spot ts encode_type (read_type depth) (Err x) now
     type_wrong x now is_b is_x s rest n e a u =

@@ -25,14 +25,14 @@ use Rattle.parser.specs.Noting.{noted_in}
 use Rattle.parser.specs.declared.kind.DefinitionKind.{DefinitionKind}
 use Rattle.parser.specs.declared.kind.DefinitionKind.TheVariants as kind
 
--- what a list is as a definition, by its head and its number of parts alone
-abbrev pub definition_kind : Option Keyword → ℕ → DefinitionKind
-definition_kind None n = kind.Wrong
+-- what a list is as a definition, by its head and its number of parts alone; none where it is no definition
+abbrev pub definition_kind : Option Keyword → ℕ → Option DefinitionKind
+definition_kind None n = None
 definition_kind (Some k) n =
-    cond (is_key k keyword.Datatype) (cond (n == 3) kind.Datatype kind.Wrong)
-    (cond (is_key k keyword.Colon) (cond (n == 3) kind.Annotation kind.Wrong)
-    (cond (is_key k keyword.Define) (cond (n == 4) kind.Define kind.Wrong)
-    (cond (is_key k keyword.Val) (cond (n == 3) kind.Val kind.Wrong) kind.Wrong)))
+    cond (is_key k keyword.Datatype) (cond (n == 3) (Some kind.Datatype) None)
+    (cond (is_key k keyword.Colon) (cond (n == 3) (Some kind.Annotation) None)
+    (cond (is_key k keyword.Define) (cond (n == 4) (Some kind.Define) None)
+    (cond (is_key k keyword.Val) (cond (n == 3) (Some kind.Val) None) None)))
 
 -- The tables hold no more than they have room for: each definition counts towards a limit.
 pub record Bounded (t : Tables) : Type 0 where

@@ -7,9 +7,7 @@ use Rattle.layout.specs.declared.function.Functions.{Functions}
 use Rattle.layout.specs.declared.function.Half.{Half}
 use Rattle.layout.specs.declared.function.Half.TheVariants.{Annotation, Define}
 use Rattle.layout.specs.declared.word.Word.{Word}
-
-abbrev pub part_of : List ℕ → Word → List ℕ
-part_of text w = take w.size (drop w.place text)
+use Rattle.names.specs.Parts.{part_of}
 
 abbrev pub fits_word : List ℕ → Half → Word → Function → Bool
 fits_word text Annotation w f = is_none f.annotation && bytes_eq (part_of text f.name) (part_of text w)

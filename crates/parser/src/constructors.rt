@@ -8,17 +8,15 @@ ghost use Rattle.parser.specs.Listing.{GoesMark, OnMark, OnMarks, listed, alone,
 ghost use Rattle.text.specs.Tokens.{Lexed, lexed_from};
 
 use super::mark::Mark;
-use super::parameters::word_of;
 use super::types::type_list;
-use forms::{Look, Source, Spot, closing_at, look_at, name_at, over_limit, wrong};
-use layout::{Constructor, TypeNode};
+use forms::{
+    Look, Source, Spot, closing_at, end_at, look_at, name_at, opening_at, over_limit, wrong,
+};
+use layout::{Constructor, DEPTH, TypeNode};
 use text::Refused;
 
 // The most constructors of a script.
 const CONSTRUCTORS: usize = 256;
-
-// How deep types nest in a constructor.
-const DEPTH: usize = 64;
 
 // How many parts the list that stands next has, where seven stands for more.
 fn list_size(source: &Source, place: usize) -> u8
@@ -26,9 +24,7 @@ fn list_size(source: &Source, place: usize) -> u8
 {
     match look_at(source.text, place) {
         Look::Open(_, inside) => source.survey(inside).parts as u8,
-        Look::Atom(_, _, _) => 0,
-        Look::Close(_, _) => 0,
-        Look::End => 0,
+        Look::Atom(_, _, _) | Look::Close(_, _) | Look::End => 0,
     }
 }
 
@@ -38,47 +34,37 @@ fn described(
     place: usize,
     mark: Mark,
     datatype: u16,
-    types: &mut [TypeNode],
-    table: &mut [Constructor],
+    types: &mut [TypeNode; 512],
+    table: &mut [Constructor; 256],
 ) -> Result<Mark, Refused>
-    requires { (place ≤ length source.now.text.now) × ((mark.types ≤ 512) × ((512 ≤ length types.old) × (256 ≤ length table.old))) }
+    requires { (place ≤ length source.now.text.now) × (mark.types ≤ 512) }
     ensures goes { GoesMark source.now.text.now mark result }
     ensures told { (entries : ℕ) (x ts : Sexp) → OnMarks alone datatype source.now.text.now mark types.old table.old (cons x (cons ts nil)) (constructor_of entries place (two x ts)) result types.new table.new }
 {
     if mark.constructors >= CONSTRUCTORS {
         return Err(over_limit(place));
     }
-    match name_at(source.text, mark.place) {
-        Ok(name) => {
-            let fields = list_size(source, name.after);
-            let first = Spot {
-                place: name.after,
-                used: mark.types,
-            };
-            match type_list(source, first, types, DEPTH) {
-                Ok(end) => match closing_at(source.text, end.place) {
-                    Some(after) => {
-                        table[mark.constructors] = Constructor {
-                            place: place as u16,
-                            name: word_of(name),
-                            datatype,
-                            first: mark.types as u16,
-                            past: end.used as u16,
-                            fields,
-                        };
-                        Ok(Mark {
-                            place: after,
-                            types: end.used,
-                            constructors: mark.constructors + 1,
-                        })
-                    }
-                    None => Err(wrong(end.place)),
-                },
-                Err(refused) => Err(refused),
-            }
-        }
-        Err(refused) => Err(refused),
-    }
+    let name = name_at(source.text, mark.place)?;
+    let fields = list_size(source, name.after);
+    let first = Spot {
+        place: name.after,
+        used: mark.types,
+    };
+    let end = type_list(source, first, types, DEPTH)?;
+    let after = end_at(source.text, end.place)?;
+    table[mark.constructors] = Constructor {
+        place: place as u16,
+        name: name.word(),
+        datatype,
+        first: mark.types as u16,
+        past: end.used as u16,
+        fields,
+    };
+    Ok(Mark {
+        place: after,
+        types: end.used,
+        constructors: mark.constructors + 1,
+    })
 }
 
 // One constructor definition: a list of a name and a list of types.
@@ -86,29 +72,22 @@ fn constructor_at(
     source: &Source,
     mark: Mark,
     datatype: u16,
-    types: &mut [TypeNode],
-    table: &mut [Constructor],
+    types: &mut [TypeNode; 512],
+    table: &mut [Constructor; 256],
 ) -> Result<Mark, Refused>
-    requires { (mark.types ≤ 512) × ((512 ≤ length types.old) × (256 ≤ length table.old)) }
+    requires { mark.types ≤ 512 }
     ensures goes { GoesMark source.now.text.now mark result }
     ensures told { (entries : ℕ) → OnMark alone datatype source.now.text.now mark types.old table.old (read_constructor entries) result types.new table.new }
 {
-    match look_at(source.text, mark.place) {
-        Look::Open(at, inside) => {
-            if source.survey(inside).parts != 2 {
-                return Err(wrong(at));
-            }
-            let first = Mark {
-                place: inside,
-                types: mark.types,
-                constructors: mark.constructors,
-            };
-            described(source, at, first, datatype, types, table)
-        }
-        Look::Atom(_, at, _) => Err(wrong(at)),
-        Look::Close(at, _) => Err(wrong(at)),
-        Look::End => Err(wrong(mark.place)),
+    let opened = opening_at(source.text, mark.place)?;
+    if source.survey(opened.inside).parts != 2 {
+        return Err(wrong(opened.place));
     }
+    let first = Mark {
+        place: opened.inside,
+        ..mark
+    };
+    described(source, opened.place, first, datatype, types, table)
 }
 
 // Constructor definitions, up to the bracket that closes their list.
@@ -116,26 +95,19 @@ fn constructors_at(
     source: &Source,
     mark: Mark,
     datatype: u16,
-    types: &mut [TypeNode],
-    table: &mut [Constructor],
+    types: &mut [TypeNode; 512],
+    table: &mut [Constructor; 256],
 ) -> Result<Mark, Refused>
-    requires { (mark.types ≤ 512) × ((mark.constructors ≤ 256) × ((512 ≤ length types.old) × (256 ≤ length table.old))) }
+    requires { (mark.types ≤ 512) × (mark.constructors ≤ 256) }
     ensures goes { GoesMark source.now.text.now mark result }
     ensures told { (entries : ℕ) (ss : Sexps) → OnMarks all datatype source.now.text.now mark types.old table.old ss (read_constructors entries ss) result types.new table.new }
 {
     let mut at = mark;
     'parts: loop {
-        match closing_at(source.text, at.place) {
-            Some(after) => return Ok(Mark {
-                place: after,
-                types: at.types,
-                constructors: at.constructors,
-            }),
-            None => match constructor_at(source, at, datatype, types, table) {
-                Ok(end) => at = end,
-                Err(refused) => return Err(refused),
-            },
+        if let Some(after) = closing_at(source.text, at.place) {
+            return Ok(Mark { place: after, ..at });
         }
+        at = constructor_at(source, at, datatype, types, table)?;
     }
 }
 
@@ -144,24 +116,17 @@ pub(crate) fn constructor_list(
     source: &Source,
     mark: Mark,
     datatype: u16,
-    types: &mut [TypeNode],
-    table: &mut [Constructor],
+    types: &mut [TypeNode; 512],
+    table: &mut [Constructor; 256],
 ) -> Result<Mark, Refused>
-    requires { (mark.types ≤ 512) × ((mark.constructors ≤ 256) × ((512 ≤ length types.old) × (256 ≤ length table.old))) }
+    requires { (mark.types ≤ 512) × (mark.constructors ≤ 256) }
     ensures goes { GoesMark source.now.text.now mark result }
     ensures told { (entries : ℕ) → OnMark all datatype source.now.text.now mark types.old table.old (read_constructor_list entries) result types.new table.new }
 {
-    match look_at(source.text, mark.place) {
-        Look::Open(_, inside) => {
-            let first = Mark {
-                place: inside,
-                types: mark.types,
-                constructors: mark.constructors,
-            };
-            constructors_at(source, first, datatype, types, table)
-        }
-        Look::Atom(_, at, _) => Err(wrong(at)),
-        Look::Close(at, _) => Err(wrong(at)),
-        Look::End => Err(wrong(mark.place)),
-    }
+    let opened = opening_at(source.text, mark.place)?;
+    let first = Mark {
+        place: opened.inside,
+        ..mark
+    };
+    constructors_at(source, first, datatype, types, table)
 }

@@ -1,4 +1,5 @@
 // Definitions, read into the tables and the node list.
+// `Bounded` stays in the contracts: `Tables` is a public type that anybody may write, and the bound holds of tables that are being filled.
 ghost use Rattle.std.specs.Prelude.{◌≡◌, ℕ, ◌<◌, ◌≤◌, List, length, slice_set};
 ghost use Rattle.grammar.specs.Forms.{datatype_form_rule, annotation_form_rule, define_form_rule, val_form_rule};
 ghost use Rattle.grammar.specs.Reading.{read_expr, read_definition_form, read_definition};
@@ -13,12 +14,12 @@ use super::constructors::constructor_list;
 use super::functions::note;
 use super::kind::{DefinitionKind, definition_of};
 use super::mark::Mark;
-use super::parameters::{parameter_list, word_of};
+use super::parameters::parameter_list;
 use super::types::type_at;
 use forms::{
-    Look, Source, Spot, behind, closing_at, expression, look_at, name_at, over_limit, wrong,
+    Look, Source, Spot, behind, end_at, expression, look_at, name_at, opening_at, over_limit, wrong,
 };
-use layout::{Annotation, Counts, Datatype, Define, Definition, Half, Node, Tables, Val};
+use layout::{Annotation, Counts, DEPTH, Datatype, Define, Definition, Half, Node, Tables, Val};
 use text::Refused;
 
 // The most defines and vals of a script, together.
@@ -26,9 +27,6 @@ const BINDINGS: usize = 256;
 
 // The most datatypes of a script.
 const DATATYPES: usize = 64;
-
-// How deep expressions and types nest in a definition.
-const DEPTH: usize = 64;
 
 // One definition more, with what is used then.
 fn add(tables: &mut Tables, definition: Definition, counts: Counts)
@@ -44,16 +42,12 @@ fn body(source: &Source, spot: Spot, nodes: &mut [Node]) -> Result<Spot, Refused
     ensures goes { Goes source.now.text.now spot result }
     ensures told { (e : Sexp) → OnList source.now.text.now spot nodes.old encode (cons e nil) (read_expr (length nodes.old) 64 e) result nodes.new }
 {
-    match expression(source, spot, nodes, DEPTH) {
-        Ok(end) => match closing_at(source.text, end.place) {
-            Some(after) => Ok(Spot {
-                place: after,
-                used: end.used,
-            }),
-            None => Err(wrong(end.place)),
-        },
-        Err(refused) => Err(refused),
-    }
+    let end = expression(source, spot, nodes, DEPTH)?;
+    let after = end_at(source.text, end.place)?;
+    Ok(Spot {
+        place: after,
+        ..end
+    })
 }
 
 // The val that begins at a place, from its name on.
@@ -72,36 +66,25 @@ fn val_binding(
     if counts.bindings >= BINDINGS {
         return Err(over_limit(place));
     }
-    match name_at(source.text, inside) {
-        Ok(name) => {
-            let first = Spot {
-                place: name.after,
-                used: counts.nodes,
-            };
-            match body(source, first, nodes) {
-                Ok(end) => {
-                    let val = Val {
-                        place: place as u16,
-                        name: word_of(name),
-                        body: counts.nodes as u16,
-                    };
-                    let counts = Counts {
-                        nodes: end.used,
-                        types: counts.types,
-                        definitions: counts.definitions + 1,
-                        datatypes: counts.datatypes,
-                        bindings: counts.bindings + 1,
-                        constructors: counts.constructors,
-                        parameters: counts.parameters,
-                    };
-                    add(tables, Definition::Val(val), counts);
-                    Ok(end.place)
-                }
-                Err(refused) => Err(refused),
-            }
-        }
-        Err(refused) => Err(refused),
-    }
+    let name = name_at(source.text, inside)?;
+    let first = Spot {
+        place: name.after,
+        used: counts.nodes,
+    };
+    let end = body(source, first, nodes)?;
+    let val = Val {
+        place: place as u16,
+        name: name.word(),
+        body: counts.nodes as u16,
+    };
+    let used = Counts {
+        nodes: end.used,
+        definitions: counts.definitions + 1,
+        bindings: counts.bindings + 1,
+        ..counts
+    };
+    add(tables, Definition::Val(val), used);
+    Ok(end.place)
 }
 
 // The define that begins at a place, from its name on.
@@ -120,56 +103,42 @@ fn function_definition(
     if counts.bindings >= BINDINGS {
         return Err(over_limit(place));
     }
-    match name_at(source.text, inside) {
-        Ok(name) => {
-            let word = word_of(name);
-            let first = Spot {
-                place: name.after,
-                used: counts.parameters,
-            };
-            match parameter_list(source, first, &mut tables.parameters) {
-                Ok(middle) => {
-                    let second = Spot {
-                        place: middle.place,
-                        used: counts.nodes,
-                    };
-                    match body(source, second, nodes) {
-                        Ok(end) => {
-                            let define = Define {
-                                place: place as u16,
-                                name: word,
-                                first: counts.parameters as u16,
-                                past: middle.used as u16,
-                                body: counts.nodes as u16,
-                            };
-                            let counts = Counts {
-                                nodes: end.used,
-                                types: counts.types,
-                                definitions: counts.definitions + 1,
-                                datatypes: counts.datatypes,
-                                bindings: counts.bindings + 1,
-                                constructors: counts.constructors,
-                                parameters: middle.used,
-                            };
-                            let number = tables.counts.definitions as u16;
-                            note(
-                                source.text,
-                                &mut tables.functions,
-                                Half::Define,
-                                word,
-                                number,
-                            );
-                            add(tables, Definition::Define(define), counts);
-                            Ok(end.place)
-                        }
-                        Err(refused) => Err(refused),
-                    }
-                }
-                Err(refused) => Err(refused),
-            }
-        }
-        Err(refused) => Err(refused),
-    }
+    let name = name_at(source.text, inside)?;
+    let word = name.word();
+    let first = Spot {
+        place: name.after,
+        used: counts.parameters,
+    };
+    let middle = parameter_list(source, first, &mut tables.parameters)?;
+    let second = Spot {
+        place: middle.place,
+        used: counts.nodes,
+    };
+    let end = body(source, second, nodes)?;
+    let define = Define {
+        place: place as u16,
+        name: word,
+        first: counts.parameters as u16,
+        past: middle.used as u16,
+        body: counts.nodes as u16,
+    };
+    let used = Counts {
+        nodes: end.used,
+        definitions: counts.definitions + 1,
+        bindings: counts.bindings + 1,
+        parameters: middle.used,
+        ..counts
+    };
+    let number = counts.definitions as u16;
+    note(
+        source.text,
+        &mut tables.functions,
+        Half::Define,
+        word,
+        number,
+    );
+    add(tables, Definition::Define(define), used);
+    Ok(end.place)
 }
 
 // The annotation that begins at a place, from its name on.
@@ -184,48 +153,34 @@ fn type_annotation(
     ensures told { (entries : ℕ) (ns : List Node) (x t : Sexp) → OnParts source.now.text.now inside tables.old ns (cons x (cons t nil)) (read_definition_form entries place (annotation_form_rule x t)) result tables.new ns }
 {
     let counts = tables.counts;
-    match name_at(source.text, inside) {
-        Ok(name) => {
-            let word = word_of(name);
-            let first = Spot {
-                place: name.after,
-                used: counts.types,
-            };
-            match type_at(source, first, &mut tables.types, DEPTH) {
-                Ok(end) => match closing_at(source.text, end.place) {
-                    Some(after) => {
-                        let annotation = Annotation {
-                            place: place as u16,
-                            name: word,
-                            root: counts.types as u16,
-                        };
-                        let counts = Counts {
-                            nodes: counts.nodes,
-                            types: end.used,
-                            definitions: counts.definitions + 1,
-                            datatypes: counts.datatypes,
-                            bindings: counts.bindings,
-                            constructors: counts.constructors,
-                            parameters: counts.parameters,
-                        };
-                        let number = tables.counts.definitions as u16;
-                        note(
-                            source.text,
-                            &mut tables.functions,
-                            Half::Annotation,
-                            word,
-                            number,
-                        );
-                        add(tables, Definition::Annotation(annotation), counts);
-                        Ok(after)
-                    }
-                    None => Err(wrong(end.place)),
-                },
-                Err(refused) => Err(refused),
-            }
-        }
-        Err(refused) => Err(refused),
-    }
+    let name = name_at(source.text, inside)?;
+    let word = name.word();
+    let first = Spot {
+        place: name.after,
+        used: counts.types,
+    };
+    let end = type_at(source, first, &mut tables.types, DEPTH)?;
+    let after = end_at(source.text, end.place)?;
+    let annotation = Annotation {
+        place: place as u16,
+        name: word,
+        root: counts.types as u16,
+    };
+    let used = Counts {
+        types: end.used,
+        definitions: counts.definitions + 1,
+        ..counts
+    };
+    let number = counts.definitions as u16;
+    note(
+        source.text,
+        &mut tables.functions,
+        Half::Annotation,
+        word,
+        number,
+    );
+    add(tables, Definition::Annotation(annotation), used);
+    Ok(after)
 }
 
 // The datatype that begins at a place, from its name on.
@@ -243,48 +198,36 @@ fn datatype_definition(
     if counts.datatypes >= DATATYPES {
         return Err(over_limit(place));
     }
-    match name_at(source.text, inside) {
-        Ok(name) => {
-            let first = Mark {
-                place: name.after,
-                types: counts.types,
-                constructors: counts.constructors,
-            };
-            let number = counts.definitions as u16;
-            match constructor_list(
-                source,
-                first,
-                number,
-                &mut tables.types,
-                &mut tables.constructors,
-            ) {
-                Ok(end) => match closing_at(source.text, end.place) {
-                    Some(after) => {
-                        let datatype = Datatype {
-                            place: place as u16,
-                            name: word_of(name),
-                            first: counts.constructors as u16,
-                            past: end.constructors as u16,
-                        };
-                        let counts = Counts {
-                            nodes: counts.nodes,
-                            types: end.types,
-                            definitions: counts.definitions + 1,
-                            datatypes: counts.datatypes + 1,
-                            bindings: counts.bindings,
-                            constructors: end.constructors,
-                            parameters: counts.parameters,
-                        };
-                        add(tables, Definition::Datatype(datatype), counts);
-                        Ok(after)
-                    }
-                    None => Err(wrong(end.place)),
-                },
-                Err(refused) => Err(refused),
-            }
-        }
-        Err(refused) => Err(refused),
-    }
+    let name = name_at(source.text, inside)?;
+    let first = Mark {
+        place: name.after,
+        types: counts.types,
+        constructors: counts.constructors,
+    };
+    let number = counts.definitions as u16;
+    let end = constructor_list(
+        source,
+        first,
+        number,
+        &mut tables.types,
+        &mut tables.constructors,
+    )?;
+    let after = end_at(source.text, end.place)?;
+    let datatype = Datatype {
+        place: place as u16,
+        name: name.word(),
+        first: counts.constructors as u16,
+        past: end.constructors as u16,
+    };
+    let used = Counts {
+        types: end.types,
+        definitions: counts.definitions + 1,
+        datatypes: counts.datatypes + 1,
+        constructors: end.constructors,
+        ..counts
+    };
+    add(tables, Definition::Datatype(datatype), used);
+    Ok(after)
 }
 
 // The definition that stands next.
@@ -298,20 +241,15 @@ fn definition(
     ensures goes { GoesDefinition source.now.text.now place result tables.new }
     ensures told { OnDefinition source.now.text.now place tables.old nodes.old (read_definition (length nodes.old)) result tables.new nodes.new }
 {
-    match look_at(source.text, place) {
-        Look::Open(at, inside) => {
-            let first = behind(source.text, inside);
-            match definition_of(source.survey(inside)) {
-                DefinitionKind::Datatype => datatype_definition(source, at, first, tables),
-                DefinitionKind::Annotation => type_annotation(source, at, first, tables),
-                DefinitionKind::Define => function_definition(source, at, first, nodes, tables),
-                DefinitionKind::Val => val_binding(source, at, first, nodes, tables),
-                DefinitionKind::Wrong => Err(wrong(at)),
-            }
-        }
-        Look::Atom(_, at, _) => Err(wrong(at)),
-        Look::Close(at, _) => Err(wrong(at)),
-        Look::End => Err(wrong(place)),
+    let opened = opening_at(source.text, place)?;
+    let at = opened.place;
+    let first = behind(source.text, opened.inside);
+    match definition_of(source.survey(opened.inside)) {
+        Some(DefinitionKind::Datatype) => datatype_definition(source, at, first, tables),
+        Some(DefinitionKind::Annotation) => type_annotation(source, at, first, tables),
+        Some(DefinitionKind::Define) => function_definition(source, at, first, nodes, tables),
+        Some(DefinitionKind::Val) => val_binding(source, at, first, nodes, tables),
+        None => Err(wrong(at)),
     }
 }
 
@@ -319,12 +257,7 @@ fn definition(
 fn is_end(text: &[u8], place: usize) -> bool
     ensures { AtEnd text.now place result }
 {
-    match look_at(text, place) {
-        Look::End => true,
-        Look::Open(_, _) => false,
-        Look::Close(_, _) => false,
-        Look::Atom(_, _, _) => false,
-    }
+    matches!(look_at(text, place), Look::End)
 }
 
 // All definitions of the text.
@@ -342,9 +275,6 @@ pub(crate) fn definitions(
         if is_end(source.text, at) {
             return Ok(());
         }
-        match definition(source, at, nodes, tables) {
-            Ok(after) => at = after,
-            Err(refused) => return Err(refused),
-        }
+        at = definition(source, at, nodes, tables)?;
     }
 }

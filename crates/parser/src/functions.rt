@@ -1,25 +1,9 @@
 // The table of functions: an annotation opens a function's entry and its define fills it, or the other way round.
 ghost use Rattle.std.specs.Prelude.{◌≡◌, ◌<◌, ◌≤◌, length, take};
-ghost use Rattle.std.specs.Str.{bytes_eq};
-ghost use Rattle.parser.specs.Noting.{part_of, fits_word, given_word, position, noted_in};
+ghost use Rattle.parser.specs.Noting.{fits_word, given_word, position, noted_in};
 
 use layout::{Function, Functions, Half, Word};
-
-// The part of a text that a word is; less where the text ends before it does.
-pub(crate) fn part(text: &[u8], word: Word) -> &[u8]
-    ensures { result.now ≡ part_of text.now word }
-{
-    let size = text.len();
-    let from = (word.place as usize).min(size);
-    let past = (word.place as usize + word.size as usize).min(size);
-    &text[from..past]
-}
-
-fn is_same(a: &[u8], b: &[u8]) -> bool
-    ensures { result ≡ bytes_eq a.now b.now }
-{
-    a == b
-}
+use names::part;
 
 // Whether an entry has this name and lacks this half.
 fn fits(text: &[u8], entry: Function, half: Half, name: Word) -> bool
@@ -29,10 +13,7 @@ fn fits(text: &[u8], entry: Function, half: Half, name: Word) -> bool
         Half::Annotation => entry.annotation,
         Half::Define => entry.define,
     };
-    match other {
-        Some(_) => false,
-        None => is_same(part(text, entry.name), part(text, name)),
-    }
+    other.is_none() && part(text, entry.name) == part(text, name)
 }
 
 // The first entry that fits, or the number of the next entry where none does.
@@ -40,13 +21,10 @@ fn find(text: &[u8], functions: &Functions, half: Half, name: Word) -> usize
     requires { functions.now.count ≤ 768 }
     ensures { result ≡ position (fits_word text.now half name) (take functions.now.count functions.now.entries) }
 {
-    let count = functions.count;
-    for i in 0..count {
-        if fits(text, functions.entries[i], half, name) {
-            return i;
-        }
-    }
-    count
+    let used = &functions.entries[..functions.count];
+    used.iter()
+        .position(|entry| fits(text, *entry, half, name))
+        .unwrap_or(used.len())
 }
 
 // The entry has this half from now on.

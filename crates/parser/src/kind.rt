@@ -1,38 +1,27 @@
 // What a list is as a definition, by its head and its number of parts.
-ghost use Rattle.std.specs.Prelude.{◌≡◌, ◌==◌, cond};
+ghost use Rattle.std.specs.Prelude.{◌≡◌};
 ghost use Rattle.parser.specs.Defining.{definition_kind};
 
 use forms::Survey;
 use text::Keyword;
 
-#[derive(Clone, Copy)]
+#[derive(Clone, Copy, PartialEq, Eq)]
 pub enum DefinitionKind {
     Datatype,
     Annotation,
     Define,
     Val,
-    Wrong,
 }
 
-// A definition of this kind, if the list has as many parts as it takes.
-fn with_parts(kind: DefinitionKind, parts: usize, taken: usize) -> DefinitionKind
-    ensures { result ≡ cond (parts == taken) kind DefinitionKind.Wrong }
-{
-    if parts == taken {
-        kind
-    } else {
-        DefinitionKind::Wrong
-    }
-}
-
-pub(crate) fn definition_of(seen: Survey) -> DefinitionKind
+// The kind of a list as a definition, or none where it is no definition.
+pub(crate) fn definition_of(seen: Survey) -> Option<DefinitionKind>
     ensures { result ≡ definition_kind seen.head seen.parts }
 {
     match seen.head {
-        Some(Keyword::Datatype) => with_parts(DefinitionKind::Datatype, seen.parts, 3),
-        Some(Keyword::Colon) => with_parts(DefinitionKind::Annotation, seen.parts, 3),
-        Some(Keyword::Define) => with_parts(DefinitionKind::Define, seen.parts, 4),
-        Some(Keyword::Val) => with_parts(DefinitionKind::Val, seen.parts, 3),
-        _ => DefinitionKind::Wrong,
+        Some(Keyword::Datatype) if seen.parts == 3 => Some(DefinitionKind::Datatype),
+        Some(Keyword::Colon) if seen.parts == 3 => Some(DefinitionKind::Annotation),
+        Some(Keyword::Define) if seen.parts == 4 => Some(DefinitionKind::Define),
+        Some(Keyword::Val) if seen.parts == 3 => Some(DefinitionKind::Val),
+        _ => None,
     }
 }

@@ -9,7 +9,8 @@ use super::definitions::definitions;
 use super::script::{Script, UNUSED};
 use forms::Source;
 use layout::{
-    Constructor, Counts, Definition, Function, Functions, Node, Tables, TypeForm, TypeNode, Word,
+    Constructor, Counts, Definition, Function, Functions, NODES, Node, Tables, TypeForm, TypeNode,
+    Word,
 };
 use symbols::number_symbols;
 use text::Refused;
@@ -70,10 +71,8 @@ fn first_nodes(nodes: &[Node]) -> [Node; 4096]
     ensures { take (min (length nodes.now) 4096) result ≡ take 4096 nodes.now }
 {
     let mut copy = [UNUSED; 4096];
-    let count = nodes.len().min(4096);
-    for i in 0..count {
-        copy[i] = nodes[i];
-    }
+    let count = nodes.len().min(NODES);
+    copy[..count].copy_from_slice(&nodes[..count]);
     copy
 }
 
@@ -83,25 +82,17 @@ pub fn read<'t>(text: &'t [u8], nodes: &mut [Node]) -> Result<Script<'t>, Refuse
     ensures law { Lawful text.now (length nodes.old) result nodes.new }
 {
     clear(nodes);
-    match Source::new(text) {
-        Ok(source) => {
-            let mut tables = blank();
-            match definitions(&source, nodes, &mut tables) {
-                Ok(()) => {
-                    number_symbols(source.text, nodes);
-                    Ok(Script {
-                        text,
-                        lent: nodes.len(),
-                        nodes: first_nodes(nodes),
-                        tables,
-                    })
-                }
-                Err(refused) => {
-                    clear(nodes);
-                    Err(refused)
-                }
-            }
-        }
-        Err(refused) => Err(refused),
+    let source = Source::new(text)?;
+    let mut tables = blank();
+    if let Err(refused) = definitions(&source, nodes, &mut tables) {
+        clear(nodes);
+        return Err(refused);
     }
+    number_symbols(source.text, nodes);
+    Ok(Script {
+        text,
+        lent: nodes.len(),
+        nodes: first_nodes(nodes),
+        tables,
+    })
 }

@@ -3,7 +3,7 @@ ghost use Rattle.std.specs.Prelude.{◌≡◌, ◌↔◌, ◌≤◌, ◌-◌, Is
 ghost use Rattle.layout.specs.Encoding.{unused};
 ghost use Rattle.parser.specs.Recording.{used, left};
 
-use layout::{Node, NodeForm, Tables};
+use layout::{NODES, Node, NodeForm, Tables};
 
 // An entry of a node list that no node uses.
 pub(crate) const UNUSED: Node = Node {
@@ -41,7 +41,7 @@ impl<'t> Script<'t> {
     pub fn nodes(&self) -> &[Node]
         ensures { result.now ≡ used self.now }
     {
-        &self.nodes[..self.tables.counts.nodes.min(4096)]
+        &self.nodes[..self.tables.counts.nodes.min(NODES)]
     }
 
     pub fn tables(&self) -> &Tables
@@ -63,19 +63,13 @@ impl<'t> Script<'t> {
     }
 }
 
-fn is_same(a: Node, b: Node) -> bool
-    ensures { IsTrue result ↔ (a ≡ b) }
-{
-    a == b
-}
-
-// Whether a list begins with these nodes.
+// Whether a list begins with these nodes. It compares entry by entry: of `starts_with` and `==` on lists of nodes the check finds no equation.
 fn starts_with(nodes: &[Node], first: &[Node]) -> bool
     requires { length first.now ≤ length nodes.now }
     ensures { IsTrue result ↔ (take (length first.now) nodes.now ≡ first.now) }
 {
     for i in 0..first.len() {
-        if !is_same(nodes[i], first[i]) {
+        if nodes[i] != first[i] {
             return false;
         }
     }
@@ -86,10 +80,5 @@ fn starts_with(nodes: &[Node], first: &[Node]) -> bool
 fn is_unused(nodes: &[Node]) -> bool
     ensures { IsTrue result ↔ (nodes.now ≡ replicate (length nodes.now) unused) }
 {
-    for i in 0..nodes.len() {
-        if !is_same(nodes[i], UNUSED) {
-            return false;
-        }
-    }
-    true
+    nodes.iter().all(|node| *node == UNUSED)
 }

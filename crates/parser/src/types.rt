@@ -8,7 +8,9 @@ ghost use Rattle.parser.specs.TypeParts.{type_form, claimed_type, arrow_head, Se
 ghost use Rattle.text.specs.Grammar.{Spelt};
 ghost use Rattle.text.specs.Tokens.{lexed_from};
 
-use forms::{Look, Source, Spot, Survey, behind, closing_at, look_at, over_limit, wrong};
+use forms::{
+    Look, Source, Spot, Survey, behind, closing_at, end_at, look_at, opening_at, over_limit, wrong,
+};
 use layout::{TypeForm, TypeNode};
 use text::{Keyword, Refused, TokenKind};
 
@@ -46,10 +48,7 @@ fn type_leaf(kind: TokenKind, size: usize) -> Option<TypeForm>
 fn is_arrow(seen: Survey) -> bool
     ensures { result ≡ arrow_head seen.head seen.parts }
 {
-    match seen.head {
-        Some(Keyword::Arrow) => seen.parts == 3,
-        _ => false,
-    }
+    matches!(seen.head, Some(Keyword::Arrow)) && seen.parts == 3
 }
 
 // The refusal of a part behind six others: too many if it is a type by its own shape, and otherwise no type.
@@ -79,29 +78,25 @@ fn single_type(
     place: usize,
     after: usize,
     used: usize,
-    types: &mut [TypeNode],
+    types: &mut [TypeNode; 512],
 ) -> Result<Spot, Refused>
-    requires { (place ≤ after) × ((after ≤ 65535) × (512 ≤ length types.old)) }
+    requires { (place ≤ after) × (after ≤ 65535) }
     ensures few { IfOk result (λ end. (end.place ≡ after) × (used < end.used) × (end.used ≤ 512)) }
     ensures told { (text w : List ℕ) (n : Tally) → Spelt kind w → after ≡ place + length w → n.types ≡ used → ToldType text (lexed_from text after) (record { place = place; used = used }) types.old (encode_type used) (type_atom place (atom_type kind place w) n) result types.new }
 {
     let Some(form) = type_leaf(kind, after - place) else {
         return Err(wrong(place));
     };
-    match claim_type(used, place) {
-        Ok(past) => {
-            types[used] = TypeNode {
-                form,
-                place: place as u16,
-                past: past as u16,
-            };
-            Ok(Spot {
-                place: after,
-                used: past,
-            })
-        }
-        Err(refused) => Err(refused),
-    }
+    let past = claim_type(used, place)?;
+    types[used] = TypeNode {
+        form,
+        place: place as u16,
+        past: past as u16,
+    };
+    Ok(Spot {
+        place: after,
+        used: past,
+    })
 }
 
 // The type at a spot, with at most so many brackets nested in it.
@@ -109,10 +104,9 @@ fn single_type(
 pub(crate) fn type_at(
     source: &Source,
     spot: Spot,
-    types: &mut [TypeNode],
+    types: &mut [TypeNode; 512],
     depth: usize,
 ) -> Result<Spot, Refused>
-    requires { 512 ≤ length types.old }
     ensures goes { GoesType source.now.text.now spot result }
     ensures told { OnType source.now.text.now spot types.old encode_type (read_type depth) result types.new }
 {
@@ -127,7 +121,7 @@ pub(crate) fn type_at(
             }
             let first = Spot {
                 place: behind(source.text, inside),
-                used: spot.used,
+                ..spot
             };
             function_type(source, at, first, types, depth - 1)
         }
@@ -142,44 +136,34 @@ fn function_type(
     source: &Source,
     place: usize,
     spot: Spot,
-    types: &mut [TypeNode],
+    types: &mut [TypeNode; 512],
     depth: usize,
 ) -> Result<Spot, Refused>
-    requires { (place ≤ length source.now.text.now) × (512 ≤ length types.old) }
+    requires { place ≤ length source.now.text.now }
     ensures goes { GoesType source.now.text.now spot result }
     ensures told { (ps t : Sexp) → OnTypeList source.now.text.now spot types.old encode_type (cons ps (cons t nil)) (read_arrow (read_type depth) place (two ps t)) result types.new }
 {
-    match claim_type(spot.used, place) {
-        Ok(first) => match type_list(
-            source,
-            Spot {
-                place: spot.place,
-                used: first,
-            },
-            types,
-            depth,
-        ) {
-            Ok(middle) => match type_at(source, middle, types, depth) {
-                Ok(end) => match closing_at(source.text, end.place) {
-                    Some(after) => {
-                        types[spot.used] = TypeNode {
-                            form: TypeForm::Function,
-                            place: place as u16,
-                            past: end.used as u16,
-                        };
-                        Ok(Spot {
-                            place: after,
-                            used: end.used,
-                        })
-                    }
-                    None => Err(wrong(end.place)),
-                },
-                Err(refused) => Err(refused),
-            },
-            Err(refused) => Err(refused),
+    let first = claim_type(spot.used, place)?;
+    let middle = type_list(
+        source,
+        Spot {
+            used: first,
+            ..spot
         },
-        Err(refused) => Err(refused),
-    }
+        types,
+        depth,
+    )?;
+    let end = type_at(source, middle, types, depth)?;
+    let after = end_at(source.text, end.place)?;
+    types[spot.used] = TypeNode {
+        form: TypeForm::Function,
+        place: place as u16,
+        past: end.used as u16,
+    };
+    Ok(Spot {
+        place: after,
+        ..end
+    })
 }
 
 // A list of types in brackets: the parameter types of a function type, or the field types of a constructor.
@@ -187,27 +171,19 @@ fn function_type(
 pub(crate) fn type_list(
     source: &Source,
     spot: Spot,
-    types: &mut [TypeNode],
+    types: &mut [TypeNode; 512],
     depth: usize,
 ) -> Result<Spot, Refused>
-    requires { (spot.used ≤ 512) × (512 ≤ length types.old) }
+    requires { spot.used ≤ 512 }
     ensures goes { GoesTypes source.now.text.now spot result }
     ensures told { OnType source.now.text.now spot types.old encode_types (read_type_list (read_type depth)) result types.new }
 {
-    match look_at(source.text, spot.place) {
-        Look::Open(_, inside) => listed_types(
-            source,
-            Spot {
-                place: inside,
-                used: spot.used,
-            },
-            types,
-            depth,
-        ),
-        Look::Atom(_, at, _) => Err(wrong(at)),
-        Look::Close(at, _) => Err(wrong(at)),
-        Look::End => Err(wrong(spot.place)),
-    }
+    let opened = opening_at(source.text, spot.place)?;
+    let first = Spot {
+        place: opened.inside,
+        ..spot
+    };
+    listed_types(source, first, types, depth)
 }
 
 // Types, at most six, up to the bracket that closes their list.
@@ -215,33 +191,23 @@ pub(crate) fn type_list(
 fn listed_types(
     source: &Source,
     spot: Spot,
-    types: &mut [TypeNode],
+    types: &mut [TypeNode; 512],
     depth: usize,
 ) -> Result<Spot, Refused>
-    requires { (spot.used ≤ 512) × (512 ≤ length types.old) }
+    requires { spot.used ≤ 512 }
     ensures goes { GoesTypes source.now.text.now spot result }
     ensures told { OnTypes source.now.text.now spot types.old encode_types (read_types (read_type depth) 0) result types.new }
 {
     let mut at = spot;
     let mut count = 0;
     'parts: loop {
-        match closing_at(source.text, at.place) {
-            Some(after) => return Ok(Spot {
-                place: after,
-                used: at.used,
-            }),
-            None => {
-                if count >= LISTED {
-                    return Err(seventh(source, at.place));
-                }
-                match type_at(source, at, types, depth) {
-                    Ok(end) => {
-                        at = end;
-                        count += 1;
-                    }
-                    Err(refused) => return Err(refused),
-                }
-            }
+        if let Some(after) = closing_at(source.text, at.place) {
+            return Ok(Spot { place: after, ..at });
         }
+        if count >= LISTED {
+            return Err(seventh(source, at.place));
+        }
+        at = type_at(source, at, types, depth)?;
+        count += 1;
     }
 }

@@ -3,4 +3,4 @@
 
 mod refusal;
 
-pub use refusal::{Refusal, Refused, of_reading};
+pub use refusal::{Refusal, Refused};

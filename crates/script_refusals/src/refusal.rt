@@ -3,7 +3,7 @@ ghost use Rattle.script_refusals.specs.Refusals.{number_of, read_as};
 ghost use Rattle.text.specs.Refusals as reading;
 
 // Each case with its number.
-#[derive(Clone, Copy)]
+#[derive(Clone, Copy, PartialEq, Eq)]
 pub enum Refusal {
     // a symbol that is not closed, or has a backslash before another byte than ' or a backslash: at its first quote
     Symbol = 1,
@@ -42,28 +42,36 @@ impl Refusal {
 }
 
 // A refusal with its place, the offset from 0 of the byte that it is about.
-#[derive(Clone, Copy)]
+#[derive(Clone, Copy, PartialEq, Eq)]
 pub struct Refused {
     pub refusal: Refusal,
     pub place: usize,
 }
 
-// A refusal of reading, which keeps its number and its place.
-pub fn of_reading(refused: text::Refused) -> Refused
-    ensures same { result.refusal ≡ read_as refused.refusal }
-    ensures number { number_of result.refusal ≡ reading.number_of refused.refusal }
-    ensures place { result.place ≡ refused.place }
-{
-    let refusal = match refused.refusal {
-        text::Refusal::Symbol => Refusal::Symbol,
-        text::Refusal::Integer => Refusal::Integer,
-        text::Refusal::Bracket => Refusal::Bracket,
-        text::Refusal::Form => Refusal::Form,
-        text::Refusal::Limit => Refusal::Limit,
-        text::Refusal::NodeList => Refusal::NodeList,
-    };
-    Refused {
-        refusal,
-        place: refused.place,
+// A refusal of reading keeps its number.
+impl From<text::Refusal> for Refusal {
+    ghost from_gives = { λ e r. (r ≡ read_as e) × (number_of r ≡ reading.number_of e) };
+
+    fn from(refusal: text::Refusal) -> Refusal {
+        match refusal {
+            text::Refusal::Symbol => Refusal::Symbol,
+            text::Refusal::Integer => Refusal::Integer,
+            text::Refusal::Bracket => Refusal::Bracket,
+            text::Refusal::Form => Refusal::Form,
+            text::Refusal::Limit => Refusal::Limit,
+            text::Refusal::NodeList => Refusal::NodeList,
+        }
+    }
+}
+
+// It keeps its place as well.
+impl From<text::Refused> for Refused {
+    ghost from_gives = { λ e r. (r.refusal ≡ read_as e.refusal) × (number_of r.refusal ≡ reading.number_of e.refusal) × (r.place ≡ e.place) };
+
+    fn from(refused: text::Refused) -> Refused {
+        Refused {
+            refusal: Refusal::from(refused.refusal),
+            place: refused.place,
+        }
     }
 }

@@ -1,24 +1,15 @@
 // Literals of a text, their bytes between the quotes, and the sums of these.
 ghost use Rattle.std.specs.Prelude.{◌≡◌, ◌<◌};
-ghost use Rattle.std.specs.Str.{bytes_eq};
 ghost use Rattle.symbols.specs.Parts.{quoted, sum_of};
 
 use layout::Word;
+use names::cut;
 
 // The bytes of a literal behind its first quote; less where the text ends before they do.
 pub(crate) fn between(text: &[u8], literal: Word) -> &[u8]
     ensures { result.now ≡ quoted text.now literal }
 {
-    let size = text.len();
-    let first = literal.place as usize + 1;
-    let past = (first + literal.size as usize).min(size);
-    &text[first.min(size)..past]
-}
-
-pub(crate) fn is_same(a: &[u8], b: &[u8]) -> bool
-    ensures { result ≡ bytes_eq a.now b.now }
-{
-    a == b
+    cut(text, literal.place as usize + 1, literal.size as usize)
 }
 
 // A number that tells most bytes apart.

@@ -1,9 +1,11 @@
 // The index: literals of a text in the order in which they were added, and for each bucket a chain of those that lie in it, the newest first.
+// It is not one type with the index of `names`, which has no sums, stops when it is full and answers numbers: only a walk of a dozen lines is
+// common to both, and its two sizes, its parts, its sums and a fact that there is a bucket would be parameters.
 ghost use Rattle.std.specs.Prelude.{◌≡◌, ◌↔◌, ℕ, ◌<◌, IsTrue, List};
 ghost use Rattle.symbols.specs.Indexing.{IsIndex, bytes_in, Finds, Adds};
 ghost use Rattle.symbols.specs.Parts.{sum_of};
 
-use super::bytes::{between, is_same, sum};
+use super::bytes::{between, sum};
 use layout::Word;
 
 const BUCKETS: usize = 4096;
@@ -40,10 +42,7 @@ impl Index {
         requires sum { wanted ≡ sum_of bytes.now }
         ensures { IsTrue result ↔ (bytes_in text.now self.now k ≡ bytes.now) }
     {
-        if self.sums[k] as usize != wanted {
-            return false;
-        }
-        is_same(between(text, self.literals[k]), bytes)
+        self.sums[k] as usize == wanted && between(text, self.literals[k]) == bytes
     }
 
     // A literal with these bytes, where one was added.

@@ -11,9 +11,7 @@ fn token_size_at(text: &[u8], place: usize) -> usize
     ensures { result ≡ token_size (lexed_from text.now place) }
 {
     match look_at(text, place) {
-        Look::Atom(_, at, after) => after - at,
-        Look::Open(at, after) => after - at,
-        Look::Close(at, after) => after - at,
+        Look::Atom(_, at, after) | Look::Open(at, after) | Look::Close(at, after) => after - at,
         Look::End => 0,
     }
 }

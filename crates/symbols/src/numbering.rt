@@ -7,10 +7,7 @@ ghost use Rattle.symbols.specs.Numbering.{literal_at, numbered};
 use super::bytes::between;
 use super::index::Index;
 use super::literal::literal;
-use layout::{Node, NodeForm};
-
-// The most nodes of a script.
-const NODES: usize = 4096;
+use layout::{NODES, Node, NodeForm};
 
 // The place of the first literal with the same bytes as the one at a place, which is added if it is the first.
 fn first_place(index: &mut Index, text: &[u8], place: u16) -> u16
@@ -37,17 +34,9 @@ pub fn number_symbols(text: &[u8], nodes: &mut [Node])
     let mut index = Index::new();
     let count = nodes.len().min(NODES);
     for i in 0..count {
-        let node = nodes[i];
-        match node.form {
-            NodeForm::Symbol(place) => {
-                let first = first_place(&mut index, text, place);
-                nodes[i] = Node {
-                    form: NodeForm::Symbol(first),
-                    place: node.place,
-                    past: node.past,
-                };
-            }
-            _ => {}
+        if let NodeForm::Symbol(place) = nodes[i].form {
+            let first = first_place(&mut index, text, place);
+            nodes[i].form = NodeForm::Symbol(first);
         }
     }
 }

@@ -1,14 +1,26 @@
+use Rattle.std.proofs.Common.{arith}
+use Rattle.std.proofs.lemmas.Result.{err_from_is_err_and}
 use Rattle.parser.proofs.DefinitionLaws.{datatype_unnamed, datatype_refused, datatype_open, datatype_made}
 use Rattle.parser.proofs.definitions.datatype_definition.Goals as goal
 
-pub returns-in-Some-clause-told : goal.returns-in-Some-clause-told
-returns-in-Some-clause-told c = λ entries ns. datatype_made c.args.source.now.text.now c.args.inside c.args.place entries c.args.tables.now ns c.if-counts-ge-DATATYPES.false c.in-Ok.name c.in-Ok.ensures.told c.in-Ok-constructor_list.end c.constructor_list.new.types c.constructor_list.new.table (c.in-Ok-constructor_list.ensures.told entries) c.in-Some.after c.word_of.result c.add.new.tables c.in-Some.ensures c.word_of.ensures c.add.ensures
+pub returns-in_err-name-clause-told : goal.returns-in_err-name-clause-told
+returns-in_err-name-clause-told c =
+    let e = err_from_is_err_and c.from_residual.result c.from_residual.ensures.1 in
+    rw (e.1, e.2) (λ entries ns. datatype_unnamed c.args.source.now.text.now c.args.inside c.args.place entries c.args.tables.now ns c.if-counts-ge-DATATYPES.false c.in_err-name.field-0.0 c.args.tables.now c.in_err-name.ensures.told)
 
-pub returns-in-None-clause-told : goal.returns-in-None-clause-told
-returns-in-None-clause-told c = λ entries ns. datatype_open c.args.source.now.text.now c.args.inside c.args.place entries c.args.tables.now ns c.if-counts-ge-DATATYPES.false c.in-Ok.name c.in-Ok.ensures.told c.in-Ok-constructor_list.end c.constructor_list.new.types c.constructor_list.new.table (c.in-Ok-constructor_list.ensures.told entries) c.wrong.result _ c.in-None.ensures
+pub returns-in_err-end-clause-told : goal.returns-in_err-end-clause-told
+returns-in_err-end-clause-told c =
+    let e = err_from_is_err_and c.from_residual-in_err-end.result c.from_residual-in_err-end.ensures.1 in
+    rw (e.1, e.2) (λ entries ns. datatype_refused c.args.source.now.text.now c.args.inside c.args.place entries c.args.tables.now ns c.if-counts-ge-DATATYPES.false c.in_ok-name.name c.in_ok-name.ensures.told c.in_err-end.field-0.0 c.constructor_list.new.types c.constructor_list.new.table _ (c.in_err-end.ensures.told entries))
 
-pub returns-in-Err-constructor_list-clause-told : goal.returns-in-Err-constructor_list-clause-told
-returns-in-Err-constructor_list-clause-told c = λ entries ns. datatype_refused c.args.source.now.text.now c.args.inside c.args.place entries c.args.tables.now ns c.if-counts-ge-DATATYPES.false c.in-Ok.name c.in-Ok.ensures.told c.in-Err-constructor_list.refused c.constructor_list.new.types c.constructor_list.new.table _ (c.in-Err-constructor_list.ensures.told entries)
+pub returns-in_err-after-clause-told : goal.returns-in_err-after-clause-told
+returns-in_err-after-clause-told c =
+    let e = err_from_is_err_and c.from_residual-in_err-after.result c.from_residual-in_err-after.ensures.1 in
+    rw (e.1, e.2) (λ entries ns. datatype_open c.args.source.now.text.now c.args.inside c.args.place entries c.args.tables.now ns c.if-counts-ge-DATATYPES.false c.in_ok-name.name c.in_ok-name.ensures.told c.in_ok-end.end c.constructor_list.new.types c.constructor_list.new.table (c.in_ok-end.ensures.told entries) _ _ c.in_err-after.ensures.0)
 
-pub returns-in-Err-clause-told : goal.returns-in-Err-clause-told
-returns-in-Err-clause-told c = λ entries ns. datatype_unnamed c.args.source.now.text.now c.args.inside c.args.place entries c.args.tables.now ns c.if-counts-ge-DATATYPES.false c.in-Err.refused c.args.tables.now c.in-Err.ensures.told
+pub returns-clause-told : goal.returns-clause-told
+returns-clause-told c =
+    let name = c.in_ok-name.ensures.goes in
+    let within = name.1 in
+    let short = c.args.source.now.short in
+    λ entries ns. datatype_made c.args.source.now.text.now c.args.inside c.args.place entries c.args.tables.now ns c.if-counts-ge-DATATYPES.false c.in_ok-name.name c.in_ok-name.ensures.told c.in_ok-end.end c.constructor_list.new.types c.constructor_list.new.table (c.in_ok-end.ensures.told entries) c.in_ok-after.after c.word.result c.add.new.tables c.in_ok-after.ensures (c.word.ensures name.2 name.3 (omega arith)) c.add.ensures

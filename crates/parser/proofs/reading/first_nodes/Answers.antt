@@ -1,10 +1,13 @@
-use Rattle.std.proofs.Common.{◌≡◌, length, min, take, ap, ◌∙◌, subst, arith}
-use Rattle.std.proofs.lemmas.List.{take_min}
+use Rattle.std.proofs.Common.{◌≡◌, length, min, take, ap, ◌∙◌, arith}
+use Rattle.std.proofs.lemmas.List.{take_min, take_all, take-append-le, length-take}
 use Rattle.parser.proofs.reading.first_nodes.Goals as goal
 
 pub returns : goal.returns
 returns c =
     let ns = c.args.nodes.now in
-    let end : c.loop-i.i ≡ min (length ns) 4096 = omega arith in
-    let turned : min (length ns) 4096 ≡ min 4096 (length ns) = omega arith in
-    subst (λ i. take i c.loop-i.copy ≡ take i ns) end c.loop-i.invariant.1 ∙ ap (λ m. take m ns) turned ∙ take_min 4096 ns
+    let m = min (length ns) 4096 in
+    let copied : c.copy_from_slice.new.self ≡ take c.min-count.result ns = c.copy_from_slice.ensures.after in
+    let size = length-take c.min-count.result ns in
+    let long = ap length copied in
+    let most : c.min-count.result ≡ min 4096 (length ns) = omega arith in
+    take-append-le m c.copy_from_slice.new.self _ (omega arith) ∙ take_all m c.copy_from_slice.new.self (omega arith) ∙ copied ∙ ap (λ k. take k ns) most ∙ take_min 4096 ns

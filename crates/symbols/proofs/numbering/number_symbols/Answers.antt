@@ -17,17 +17,17 @@ loop-i-preserved c =
     let text = c.args.text.now in
     let within : c.min-count.result ≤ length c.args.nodes.now = omega arith in
     let s = c.loop-i.invariant in
-    elim c.match-node.branch [
+    elim c.match-nodes-i.branch [
       | in-Symbol w ↦
           let made = w.first_place-first in
           let n = get_or c.loop-i.nodes c.loop-i.i unused in
           let v = node (form.Symbol made.result) n.place n.past in
           let done = passing_symbol text c.args.nodes.now c.min-count.result within c.loop-i.i c.loop-i.index c.loop-i.nodes c.loop-i-test.true s w.in-Symbol.place made.result made.new.index v (ap symbol_place w.in-Symbol.is) made.ensures.index made.ensures.few made.ensures.first made.ensures.holds refl in
-          subst (λ ix. Passing text c.args.nodes.now c.min-count.result (c.loop-i.i + 1) ix c.match-node.nodes) (sym w.index-is)
+          subst (λ ix. Passing text c.args.nodes.now c.min-count.result (c.loop-i.i + 1) ix c.match-nodes-i.nodes) (sym w.index-is)
           (subst (λ ns. Passing text c.args.nodes.now c.min-count.result (c.loop-i.i + 1) made.new.index ns) (sym w.nodes-is) done)
       | in_default w ↦
           let done = passing_other text c.args.nodes.now c.min-count.result within c.loop-i.i c.loop-i.index c.loop-i.nodes c.loop-i-test.true s (no_symbol _ w.in_default.not-Symbol) in
-          subst (λ ix. Passing text c.args.nodes.now c.min-count.result (c.loop-i.i + 1) ix c.match-node.nodes) (sym w.index-is)
+          subst (λ ix. Passing text c.args.nodes.now c.min-count.result (c.loop-i.i + 1) ix c.match-nodes-i.nodes) (sym w.index-is)
           (subst (λ ns. Passing text c.args.nodes.now c.min-count.result (c.loop-i.i + 1) c.loop-i.index ns) (sym w.nodes-is) done)
     ]
 

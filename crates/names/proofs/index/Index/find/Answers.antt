@@ -24,13 +24,13 @@ returns-then-k-below-clause-found c = λ ix.
     let low : c.in-Some.link < c.chain.below = l.below in
     absurd (omega arith)
 
-pub returns-then-is_same-clause-found : goal.returns-then-is_same-clause-found
-returns-then-is_same-clause-found c = λ ix.
+pub returns-then-eq-clause-found : goal.returns-then-eq-clause-found
+returns-then-eq-clause-found c = λ ix.
     let text = c.args.text.now in
     let s = c.args.self.now in
     let long : length s.names ≡ 512 = search rules in
     let few : s.count ≤ 512 = ix.few in
-    let same = (bytes_eq-Decides c.args.name.now c.part.result.now).0 (sym c.is_same.ensures ∙ c.if-is_same.true) in
+    let same = (bytes_eq-Decides c.args.name.now c.part.result.now).0 (sym c.eq.ensures ∙ c.if-eq.true) in
     let here : name_at text s c.in-Some.link ≡ c.args.name.now = (let h : c.part.result.now ≡ name_at text s c.in-Some.link = search rules in sym h ∙ sym same) in
     let inv = c.chain.invariant in
     let used : c.chain.below ≤ s.count = inv.used in
@@ -48,7 +48,7 @@ chain-preserved c =
       used = omega arith;
       chain = λ ix. next text s c.args.name.now ix c.chain.below c.in-Some.link (sym (inv.chain ix) ∙ c.in-Some.is) used;
       others = λ ix. missed text s c.args.name.now c.chain.below c.in-Some.link (sym (inv.chain ix) ∙ c.in-Some.is)
-          (λ e. let h : c.part.result.now ≡ name_at text s c.in-Some.link = search rules in both_ways _ (sym c.is_same.ensures ∙ c.if-is_same.false) ((bytes_eq-Decides c.args.name.now c.part.result.now).1 (sym e ∙ sym h))) (inv.others ix);
+          (λ e. let h : c.part.result.now ≡ name_at text s c.in-Some.link = search rules in both_ways _ (sym c.eq.ensures ∙ c.if-eq.false) ((bytes_eq-Decides c.args.name.now c.part.result.now).1 (sym e ∙ sym h))) (inv.others ix);
     }
 
 pub returns-clause-found : goal.returns-clause-found
