@@ -10,7 +10,7 @@ use cells::values::Value;
 use machine::{Held, Slot, value_at};
 use stack::Stack;
 
-// A value as the basis takes it.
+// A value as the basis takes it. Both types are of crates below, so this is no impl of From or TryFrom.
 fn plain_of(value: Value) -> Option<Plain>
     ensures { result ≡ plain_value value }
 {
@@ -19,8 +19,7 @@ fn plain_of(value: Value) -> Option<Plain>
         Value::Bool(truth) => Some(Plain::Bool(truth)),
         Value::Sym(number) => Some(Plain::Sym(number)),
         Value::Unit => Some(Plain::Unit),
-        Value::Function(_) => None,
-        Value::Cell(_) => None,
+        Value::Function(_) | Value::Cell(_) => None,
     }
 }
 

@@ -28,6 +28,7 @@ fn gather(slots: &Stack<'_, Slot>, held: usize, last: Value) -> Option<[Value; 6
     let unit = Value::Unit;
     let mut fields = [unit; 6];
     fields[held] = last;
+    // the newest slot is the last field but one: two ends, which an index says most plainly
     for depth in 0..held {
         fields[held - 1 - depth] = value_at(slots, depth)?;
     }
@@ -36,7 +37,7 @@ fn gather(slots: &Stack<'_, Slot>, held: usize, last: Value) -> Option<[Value; 6
 
 // With so many arguments held and the last one: they become the fields of a new cell.
 pub fn build_last<S: CellStore>(
-    machine: &mut Machine<'_, '_, '_, '_, '_>,
+    machine: &mut Machine<'_>,
     store: &mut S,
     constructor: u16,
     held: usize,

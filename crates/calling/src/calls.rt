@@ -31,18 +31,13 @@ fn count_of(held: Held) -> usize
     ensures { result ≡ held_count held }
 {
     match held {
-        Held::None => 0,
         Held::One => 1,
-        Held::More => 0,
+        Held::None | Held::More => 0,
     }
 }
 
 // A define is called: its arguments become its names, in the same entries, and its body is next.
-fn enter_body(
-    machine: &mut Machine<'_, '_, '_, '_, '_>,
-    at: u16,
-    number: usize,
-) -> Result<(), FaultKind>
+fn enter_body(machine: &mut Machine<'_>, at: u16, number: usize) -> Result<(), FaultKind>
     ensures steady { Steady machine.old machine.new }
     ensures law { (P : Program) (Z : Sizes) (m₀ m : Cells) (s : State) (k : ℕ) (K : List Waits) (env : Environment) (a : Account) (p : ℕ) (d : Define)
         → Ripe P Z m₀ k K env a machine.old m → PlacedAt P machine.old.script.now.code at p → slice_get P.defines number ≡ Some d
@@ -55,7 +50,7 @@ fn enter_body(
 
 // A function without arguments is called.
 pub fn call_bare(
-    machine: &mut Machine<'_, '_, '_, '_, '_>,
+    machine: &mut Machine<'_>,
     out: &mut [u8],
     at: u16,
     function: u32,
@@ -75,7 +70,7 @@ pub fn call_bare(
 
 // A function is called with the arguments held and the last one.
 pub fn call(
-    machine: &mut Machine<'_, '_, '_, '_, '_>,
+    machine: &mut Machine<'_>,
     out: &mut [u8],
     at: u16,
     function: u32,

@@ -18,7 +18,7 @@ use rules::FaultKind;
 
 // The expression at this node is entered.
 pub fn enter<S: CellStore>(
-    machine: &mut Machine<'_, '_, '_, '_, '_>,
+    machine: &mut Machine<'_>,
     store: &mut S,
     at: u16,
 ) -> Result<(), FaultKind>

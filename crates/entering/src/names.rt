@@ -29,7 +29,7 @@ fn left(value: Value) -> Slot
 }
 
 // A local name: its value is finished, and data leaves it empty.
-pub fn enter_local(machine: &mut Machine<'_, '_, '_, '_, '_>, depth: u16) -> Result<(), FaultKind>
+pub fn enter_local(machine: &mut Machine<'_>, depth: u16) -> Result<(), FaultKind>
     ensures steady { Steady machine.old machine.new }
     ensures law { (P : Program) (Z : Sizes) (m₀ m : Cells) (K : List Waits) (env : Environment) (a : Account) (e : Expr) (w : Name) (p : ℕ)
         → Mirrors P Z m₀ (st K env (enters e) a) machine.old m → distance w (names env) ≡ Some depth
@@ -42,7 +42,7 @@ pub fn enter_local(machine: &mut Machine<'_, '_, '_, '_, '_>, depth: u16) -> Res
 
 // A deep copy of a local name's value: one cell for each constructor.
 pub fn enter_dup<S: CellStore>(
-    machine: &mut Machine<'_, '_, '_, '_, '_>,
+    machine: &mut Machine<'_>,
     store: &mut S,
     depth: u16,
 ) -> Result<(), FaultKind>
@@ -60,11 +60,7 @@ pub fn enter_dup<S: CellStore>(
 }
 
 // A val's name waits for the val's expression, which has no entries.
-pub fn enter_val(
-    machine: &mut Machine<'_, '_, '_, '_, '_>,
-    at: u16,
-    number: u16,
-) -> Result<(), FaultKind>
+pub fn enter_val(machine: &mut Machine<'_>, at: u16, number: u16) -> Result<(), FaultKind>
     ensures steady { Steady machine.old machine.new }
     ensures law { (P : Program) (Z : Sizes) (m₀ m : Cells) (K : List Waits) (env : Environment) (a : Account) (e : Expr) (p : ℕ)
         → Mirrors P Z m₀ (st K env (enters e) a) machine.old m → PlacedAt P machine.old.script.now.code at p

@@ -22,14 +22,13 @@ fn one_more(held: Held) -> Held
 {
     match held {
         Held::None => Held::One,
-        Held::One => Held::More,
-        Held::More => Held::More,
+        Held::One | Held::More => Held::More,
     }
 }
 
 // The function at the head: the first argument is next, or the call.
 pub fn hand_head(
-    machine: &mut Machine<'_, '_, '_, '_, '_>,
+    machine: &mut Machine<'_>,
     out: &mut [u8],
     at: u16,
     value: Value,
@@ -57,7 +56,7 @@ pub fn hand_head(
 
 // An argument: it is held, and the next one comes, or the call.
 pub fn hand_argument(
-    machine: &mut Machine<'_, '_, '_, '_, '_>,
+    machine: &mut Machine<'_>,
     out: &mut [u8],
     at: u16,
     next: u16,
@@ -88,7 +87,7 @@ pub fn hand_argument(
 
 // An argument of a constructor: it is held, and the next one comes, or the data is built.
 pub fn hand_field<S: CellStore>(
-    machine: &mut Machine<'_, '_, '_, '_, '_>,
+    machine: &mut Machine<'_>,
     store: &mut S,
     at: u16,
     next: u16,

@@ -35,7 +35,7 @@ fn record_of<S: CellStore>(store: &S, number: u32) -> Option<CellRecord>
 
 // A branch whose pattern is a wildcard: the whole value is dropped.
 fn take_any<S: CellStore>(
-    machine: &mut Machine<'_, '_, '_, '_, '_>,
+    machine: &mut Machine<'_>,
     store: &mut S,
     at: u16,
     branch: u16,
@@ -55,7 +55,7 @@ fn take_any<S: CellStore>(
 
 // A branch for the constructor: the tested cell is given back, and its fields are bound or dropped.
 fn take_fields<S: CellStore>(
-    machine: &mut Machine<'_, '_, '_, '_, '_>,
+    machine: &mut Machine<'_>,
     store: &mut S,
     at: u16,
     branch: u16,
@@ -84,7 +84,7 @@ fn take_fields<S: CellStore>(
 
 // The tested value of a case: the first branch that fits is taken.
 pub fn hand_tested<S: CellStore>(
-    machine: &mut Machine<'_, '_, '_, '_, '_>,
+    machine: &mut Machine<'_>,
     store: &mut S,
     at: u16,
     value: Value,

@@ -16,6 +16,7 @@ pub fn choose(script: &Compiled, first: u16, past: u16, constructor: u16) -> Opt
     ensures { (P : Program) (G : Scope) (bs : Branches) → Forward P script.now.code → StandsBranches P script.now.code G bs first past
         → Chosen P script.now.code G bs constructor result }
 {
+    // each branch names the node of the next, so the loop follows nodes and goes over no slice
     let mut node = first;
     while node < past {
         let code = code_at(script, node as usize);

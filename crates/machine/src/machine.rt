@@ -1,16 +1,18 @@
 // The state of a run: the script and its text, the input that is left, what waits, what is held, what comes next, and how many
 // cells were taken and given back.
+// A row takes the machine and the store side by side: rows stand in the crates above, where Machine can have no methods.
+// Each row adds to taken and given itself: a method would have to say of every other field that it stays.
 use super::{Control, Frame, Slot};
 use program::Compiled;
 use stack::Stack;
 
 #[derive(Drop)]
-pub struct Machine<'s, 't, 'i, 'f, 'v> {
-    pub script: &'s Compiled,
-    pub text: &'t [u8],
-    pub input: &'i [u8],
-    pub frames: Stack<'f, Frame>,
-    pub slots: Stack<'v, Slot>,
+pub struct Machine<'a> {
+    pub script: &'a Compiled,
+    pub text: &'a [u8],
+    pub input: &'a [u8],
+    pub frames: Stack<'a, Frame>,
+    pub slots: Stack<'a, Slot>,
     pub control: Control,
     pub taken: u64,
     pub given: u64,

@@ -15,7 +15,7 @@ use super::{Control, Frame, Halt, Machine};
 use cells::values::Value;
 use rules::FaultKind;
 
-impl<'s, 't, 'i, 'f, 'v> Machine<'s, 't, 'i, 'f, 'v> {
+impl<'a> Machine<'a> {
     // The expression at this node is next.
     pub fn go(&mut self, node: u16) -> Result<(), FaultKind>
         ensures steady { Steady self.old self.new }

@@ -20,7 +20,8 @@ pub struct Advanced {
     pub bytes: usize,
 }
 
-// The whole run's steps, cells taken and cells given back; and whether closing met what no checked script meets over its own store.
+// The whole run's steps, cells taken and cells given back; and whether closing met what no checked script meets over its own store:
+// the counts stand either way.
 #[derive(Clone, Copy, PartialEq, Eq)]
 pub struct Closed {
     pub steps: u32,

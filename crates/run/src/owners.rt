@@ -23,6 +23,7 @@ pub fn owner_at(script: &Compiled, place: u16) -> Word
     ensures { (P : Program) → Lays script.now P → result ≡ word (owner_found P place) }
 {
     let mut name = Word { place: 0, size: 0 };
+    // nothing bounds the count by the table, so the owners are looked up by number and are no slice
     for i in 0..script.owner_count as usize {
         let owner = owner_of(script, i);
         if owner.place > place {

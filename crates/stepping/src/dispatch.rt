@@ -17,9 +17,9 @@ use handing::{
 };
 use machine::{Frame, Halt, Machine, unprinted};
 
-// By what waits.
+// By what waits. These are all frames there are, and a run keeps them as values on a stack: so a match, and no closures.
 pub fn hand<S: CellStore>(
-    machine: &mut Machine<'_, '_, '_, '_, '_>,
+    machine: &mut Machine<'_>,
     store: &mut S,
     out: &mut [u8],
     frame: Frame,

@@ -19,7 +19,7 @@ use rules::FaultKind;
 // Whatever the machine mirrors, it does what the rules say, and then mirrors what they lead to. What is printed goes to the front of
 // the slice. A run that has ended, or a value for which nothing waits, is stuck.
 pub fn step<S: CellStore>(
-    machine: &mut Machine<'_, '_, '_, '_, '_>,
+    machine: &mut Machine<'_>,
     store: &mut S,
     out: &mut [u8],
 ) -> Result<usize, Halt>
