@@ -10,7 +10,7 @@ use declared::print_declared;
 use host::read_script;
 use layout::{Node, NodeForm};
 use parser::read;
-use script_refusals::of_reading;
+use script_refusals::Refused;
 use std::io;
 
 // The most nodes of a script.
@@ -26,6 +26,6 @@ fn main(rt: HostRuntime) -> io::Result<()> {
     let mut nodes = vec![in rt.alloc(); unused; NODES]?;
     match read(&text, &mut nodes) {
         Ok(script) => print_declared(&rt, &script),
-        Err(refused) => rt.print(explain_refusal(rt.alloc(), &text, of_reading(refused))?),
+        Err(refused) => rt.print(explain_refusal(rt.alloc(), &text, Refused::from(refused))?),
     }
 }
