@@ -9,7 +9,7 @@ ghost use Rattle.rules.specs.States.{Frame as Waits, enter as enters};
 ghost use Rattle.rules.specs.Steps.{Sizes, enter_expr};
 
 use super::builds::enter_build;
-use super::names::{enter_dup, enter_local, enter_val};
+use super::lookups::{enter_dup, enter_local, enter_val};
 use cells::store::CellStore;
 use cells::values::Value;
 use machine::{Control, Frame, Machine, after, bind_next, code_at};

@@ -3,7 +3,7 @@
 
 mod builds;
 mod expressions;
-mod names;
+mod lookups;
 
 pub use expressions::enter;
-pub use names::{enter_dup, enter_local, enter_val};
+pub use lookups::{enter_dup, enter_local, enter_val};

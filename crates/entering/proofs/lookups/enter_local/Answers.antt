@@ -7,7 +7,7 @@ use Rattle.machine.specs.Holding.{kept}
 use Rattle.machine.specs.Mirrors.{moved_any}
 use Rattle.rules.specs.Steps.{enter_name}
 use Rattle.stack.specs.Items.{tops}
-use Rattle.entering.proofs.names.enter_local.Goals as goal
+use Rattle.entering.proofs.lookups.enter_local.Goals as goal
 
 pub returns-in_err-value-clause-law : goal.returns-in_err-value-clause-law
 returns-in_err-value-clause-law c = λ P Z m₀ m K env a e w p M at.

@@ -8,7 +8,7 @@ use Rattle.machine.specs.Mirrors.{moved_any}
 use Rattle.rules.specs.Faults.{walk_fault}
 use Rattle.rules.specs.Steps.{dup_entered}
 use Rattle.stack.specs.Items.{tops}
-use Rattle.entering.proofs.names.enter_dup.Goals as goal
+use Rattle.entering.proofs.lookups.enter_dup.Goals as goal
 
 pub returns-in_err-value-clause-law : goal.returns-in_err-value-clause-law
 returns-in_err-value-clause-law g c = λ P Z m₀ K env a e w M at.

@@ -6,7 +6,7 @@ use Rattle.machine.specs.Mirrors.{Moved, moved_any}
 use Rattle.machine.specs.Waiting.{waits_body}
 use Rattle.program.specs.Standing.{StandsAt}
 use Rattle.rules.specs.States.{body_value, st, enter}
-use Rattle.entering.proofs.names.enter_val.Goals as goal
+use Rattle.entering.proofs.lookups.enter_val.Goals as goal
 
 pub returns-clause-law : goal.returns-clause-law
 returns-clause-law c = λ P Z m₀ m K env a e p M at.
