@@ -14,16 +14,16 @@ ghost use Rattle.typing.specs.Verdict.{Verdict, accepted, among_them, once, once
 use super::declarations::Declarations;
 use super::global::Global;
 use super::refusing::refused;
-use super::tables::{constructor_at, definitions};
+use super::tables::{Parsed, constructor_at, definitions};
 use super::variant::{NO_VARIANT, Variant};
 use basis::find;
 use entries::put;
-use layout::{Datatype, Define, Definition, Tables, Val, Word};
+use layout::{Datatype, Define, Definition, Val, Word};
 use names::{Index, part};
 use script_refusals::{Refusal, Refused};
 
 // The number of the first define among the functions: those of the basis come first.
-const FIRST_DEFINE: u16 = 33;
+pub(crate) const FIRST_DEFINE: u16 = 33;
 
 // Whether a tally has a name.
 fn is_among(index: &Index, text: &[u8], name: &[u8]) -> bool
@@ -91,18 +91,12 @@ impl Declarations {
     }
 
     // The constructor with a number, of the datatype with a number.
-    fn constructor(
-        &mut self,
-        text: &[u8],
-        tables: &Tables,
-        datatype: u16,
-        i: u16,
-    ) -> Result<(), Refused>
-        ensures told { (t : Tally) (k : ℕ) (x : Constructor) (next : Verdict) → Holds text.now self.old t → VariantLies text.now tables.now (slice_index_or tables.now.constructors i unused_constructor) k x → once x.name (seen_bound t) next ≡ told result next }
-        ensures holds { (t : Tally) (k : ℕ) (x : Constructor) → Holds text.now self.old t → VariantLies text.now tables.now (slice_index_or tables.now.constructors i unused_constructor) k x → length t.variants ≡ i → i < 256 → length t.bound < 512 → IfOk result (λ _. Holds text.now self.new (also_variants datatype i k (x ∷ []) t)) }
+    fn constructor(&mut self, parsed: &Parsed<'_>, datatype: u16, i: u16) -> Result<(), Refused>
+        ensures told { (t : Tally) (k : ℕ) (x : Constructor) (next : Verdict) → Holds parsed.now.text.now self.old t → VariantLies parsed.now.text.now parsed.now.tables.now (slice_index_or parsed.now.tables.now.constructors i unused_constructor) k x → once x.name (seen_bound t) next ≡ told result next }
+        ensures holds { (t : Tally) (k : ℕ) (x : Constructor) → Holds parsed.now.text.now self.old t → VariantLies parsed.now.text.now parsed.now.tables.now (slice_index_or parsed.now.tables.now.constructors i unused_constructor) k x → length t.variants ≡ i → i < 256 → length t.bound < 512 → IfOk result (λ _. Holds parsed.now.text.now self.new (also_variants datatype i k (x ∷ []) t)) }
     {
-        let entry = constructor_at(tables, i as usize);
-        self.bind(text, entry.name, Global::Constructor(i))?;
+        let entry = constructor_at(parsed.tables, i as usize);
+        self.bind(parsed.text, entry.name, Global::Constructor(i))?;
         let variant = Variant {
             datatype,
             first: entry.first,
@@ -116,68 +110,62 @@ impl Declarations {
     // The constructors from one number up to another, of the datatype with a number.
     fn constructors(
         &mut self,
-        text: &[u8],
-        tables: &Tables,
+        parsed: &Parsed<'_>,
         datatype: u16,
         first: u16,
         past: u16,
     ) -> Result<(), Refused>
-        ensures told { (t : Tally) (k : ℕ) (cs : List Constructor) (next : List Name → Verdict) → Holds text.now self.old t → Next text.now tables.now t first past k cs → once_variants cs (seen_bound t) next ≡ told result (next (seen_bound (also_variants datatype first k cs t))) }
-        ensures holds { (t : Tally) (k : ℕ) (cs : List Constructor) → Holds text.now self.old t → Next text.now tables.now t first past k cs → IfOk result (λ _. Holds text.now self.new (also_variants datatype first k cs t)) }
+        ensures told { (t : Tally) (k : ℕ) (cs : List Constructor) (next : List Name → Verdict) → Holds parsed.now.text.now self.old t → Next parsed.now.text.now parsed.now.tables.now t first past k cs → once_variants cs (seen_bound t) next ≡ told result (next (seen_bound (also_variants datatype first k cs t))) }
+        ensures holds { (t : Tally) (k : ℕ) (cs : List Constructor) → Holds parsed.now.text.now self.old t → Next parsed.now.text.now parsed.now.tables.now t first past k cs → IfOk result (λ _. Holds parsed.now.text.now self.new (also_variants datatype first k cs t)) }
     {
         'each: for i in first..past {
-            self.constructor(text, tables, datatype, i)?;
+            self.constructor(parsed, datatype, i)?;
         }
         Ok(())
     }
 
     // A datatype and its constructors.
-    fn datatype(&mut self, text: &[u8], tables: &Tables, datatype: Datatype) -> Result<(), Refused>
-        ensures { Declared text.now tables.now (Definition.Datatype datatype) self.old result self.new }
+    fn datatype(&mut self, parsed: &Parsed<'_>, datatype: Datatype) -> Result<(), Refused>
+        ensures { Declared parsed.now.text.now parsed.now.tables.now (Definition.Datatype datatype) self.old result self.new }
     {
         let number = self.datatypes.count() as u16;
-        self.name_datatype(text, datatype.name)?;
-        self.constructors(text, tables, number, datatype.first, datatype.past)
+        self.name_datatype(parsed.text, datatype.name)?;
+        self.constructors(parsed, number, datatype.first, datatype.past)
     }
 
     // A define, with the next number among the functions.
-    fn define(&mut self, text: &[u8], tables: &Tables, define: Define) -> Result<(), Refused>
-        ensures { Declared text.now tables.now (Definition.Define define) self.old result self.new }
+    fn define(&mut self, parsed: &Parsed<'_>, define: Define) -> Result<(), Refused>
+        ensures { Declared parsed.now.text.now parsed.now.tables.now (Definition.Define define) self.old result self.new }
     {
         let number = self.functions;
-        self.bind(text, define.name, Global::Function(number))?;
+        self.bind(parsed.text, define.name, Global::Function(number))?;
         self.functions = number.saturating_add(1);
         Ok(())
     }
 
     // A val, with the next number among the vals.
-    fn bind_val(&mut self, text: &[u8], tables: &Tables, val: Val) -> Result<(), Refused>
-        ensures { Declared text.now tables.now (Definition.Val val) self.old result self.new }
+    fn bind_val(&mut self, parsed: &Parsed<'_>, val: Val) -> Result<(), Refused>
+        ensures { Declared parsed.now.text.now parsed.now.tables.now (Definition.Val val) self.old result self.new }
     {
         let number = self.vals;
-        self.bind(text, val.name, Global::Val(number))?;
+        self.bind(parsed.text, val.name, Global::Val(number))?;
         self.vals = number.saturating_add(1);
         Ok(())
     }
 
     // What one definition declares.
-    fn declare(
-        &mut self,
-        text: &[u8],
-        tables: &Tables,
-        definition: Definition,
-    ) -> Result<(), Refused>
-        ensures { Declared text.now tables.now definition self.old result self.new }
+    fn declare(&mut self, parsed: &Parsed<'_>, definition: Definition) -> Result<(), Refused>
+        ensures { Declared parsed.now.text.now parsed.now.tables.now definition self.old result self.new }
     {
         match definition {
-            Definition::Datatype(datatype) => self.datatype(text, tables, datatype),
+            Definition::Datatype(datatype) => self.datatype(parsed, datatype),
             Definition::Annotation(annotation) => self.annotate(
-                text,
+                parsed.text,
                 annotation.name,
                 annotation.root,
             ),
-            Definition::Define(define) => self.define(text, tables, define),
-            Definition::Val(val) => self.bind_val(text, tables, val),
+            Definition::Define(define) => self.define(parsed, define),
+            Definition::Val(val) => self.bind_val(parsed, val),
             Definition::Unused => Ok(()),
         }
     }
@@ -199,13 +187,13 @@ impl Declarations {
     }
 
     // What all definitions declare; the first name in text order that was declared before is refused.
-    pub(crate) fn read(text: &[u8], tables: &Tables) -> Result<Declarations, Refused>
-        ensures names { (script : Script) → Laid text.now tables.now script → once_all basis_names basis_names [] script ≡ told result accepted }
-        ensures holds { (script : Script) → Laid text.now tables.now script → IfOk result (λ d. Holds text.now d (tallied_all none script no_tally)) }
+    pub(crate) fn read(parsed: &Parsed<'_>) -> Result<Declarations, Refused>
+        ensures names { (script : Script) → Laid parsed.now.text.now parsed.now.tables.now script → once_all basis_names basis_names [] script ≡ told result accepted }
+        ensures holds { (script : Script) → Laid parsed.now.text.now parsed.now.tables.now script → IfOk result (λ d. Holds parsed.now.text.now d (tallied_all none script no_tally)) }
     {
         let mut declared = Declarations::new();
-        for &definition in definitions(tables) {
-            declared.declare(text, tables, definition)?;
+        for &definition in definitions(parsed.tables) {
+            declared.declare(parsed, definition)?;
         }
         Ok(declared)
     }

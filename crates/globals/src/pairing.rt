@@ -16,9 +16,9 @@ ghost use Rattle.typing.specs.Verdict.{accepted, found};
 use super::declarations::Declarations;
 use super::define_types::DefineTypes;
 use super::refusing::refused;
-use super::tables::definitions;
+use super::tables::{Parsed, definitions};
 use entries::put;
-use layout::{Definition, Tables, Word};
+use layout::{Definition, Word};
 use names::part;
 use script_refusals::{Refusal, Refused};
 use type_rows::{Rows, ValueType};
@@ -79,20 +79,19 @@ fn pair_one(
 
 // The types of all defines; the first definition in text order that lacks its other half is refused.
 pub(crate) fn pair(
-    text: &[u8],
-    tables: &Tables,
+    parsed: &Parsed<'_>,
     declared: &Declarations,
     rows: &Rows,
 ) -> Result<DefineTypes, Refused>
-    ensures { (script : Script) → Laid text.now tables.now script → Named text.now declared.now script → HasRows (program script) (types_listed script) rows.now.rows
+    ensures { (script : Script) → Laid parsed.now.text.now parsed.now.tables.now script → Named parsed.now.text.now declared.now script → HasRows (program script) (types_listed script) rows.now.rows
         → ArePaired (program script) script (meaning (program script) (types_listed script)) rows.now result }
 {
     let mut types = DefineTypes {
         types: [ValueType::Unit; 256],
     };
     let mut defines: usize = 0;
-    for &definition in definitions(tables) {
-        defines = pair_one(text, declared, rows, definition, &mut types, defines)?;
+    for &definition in definitions(parsed.tables) {
+        defines = pair_one(parsed.text, declared, rows, definition, &mut types, defines)?;
     }
     Ok(types)
 }

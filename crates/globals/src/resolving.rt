@@ -8,7 +8,7 @@ ghost use Rattle.type_rows.specs.TypeExprs.{types_listed, row_of_result, expr_at
 
 use super::declarations::Declarations;
 use super::refusing::refused;
-use super::tables::type_at;
+use super::tables::{Parsed, type_at};
 use layout::{Tables, TypeForm, Word};
 use names::part;
 use script_refusals::{Refusal, Refused};
@@ -56,16 +56,11 @@ fn parts_of(tables: &Tables, k: usize) -> Parts
 }
 
 // The shape of the type expression at a type node.
-fn shape_of(
-    text: &[u8],
-    tables: &Tables,
-    declared: &Declarations,
-    k: usize,
-) -> Result<Shape, Refused>
+fn shape_of(parsed: &Parsed<'_>, declared: &Declarations, k: usize) -> Result<Shape, Refused>
     requires { k < 512 }
-    ensures { (P : Program) (script : Script) → TypesLaid text.now tables.now (types_listed script) → HasDatatypes text.now declared.now P → k < length (types_listed script) → IsShape P (expr_at (types_listed script) k) result }
+    ensures { (P : Program) (script : Script) → TypesLaid parsed.now.text.now parsed.now.tables.now (types_listed script) → HasDatatypes parsed.now.text.now declared.now P → k < length (types_listed script) → IsShape P (expr_at (types_listed script) k) result }
 {
-    let node = type_at(tables, k);
+    let node = type_at(parsed.tables, k);
     match node.form {
         TypeForm::Int => Ok(Shape::Int),
         TypeForm::Bool => Ok(Shape::Bool),
@@ -78,11 +73,11 @@ fn shape_of(
             };
             let number = declared
                 .datatypes
-                .find(text, part(text, name))
+                .find(parsed.text, part(parsed.text, name))
                 .ok_or(refused(Refusal::Unknown, node.place))?;
             Ok(Shape::Datatype(number as u16))
         }
-        TypeForm::Function => Ok(Shape::Function(parts_of(tables, k).count)),
+        TypeForm::Function => Ok(Shape::Function(parts_of(parsed.tables, k).count)),
         TypeForm::Unused => Ok(Shape::Unit),
     }
 }
@@ -99,20 +94,16 @@ fn result_row(tables: &Tables, k: usize) -> u16
 }
 
 // The table of types of a script; the first name that is no datatype's is refused.
-pub(crate) fn resolve(
-    text: &[u8],
-    tables: &Tables,
-    declared: &Declarations,
-) -> Result<Rows, Refused>
-    ensures { (P : Program) (script : Script) → TypesLaid text.now tables.now (types_listed script) → HasDatatypes text.now declared.now P → IsResolved P (types_listed script) result }
+pub(crate) fn resolve(parsed: &Parsed<'_>, declared: &Declarations) -> Result<Rows, Refused>
+    ensures { (P : Program) (script : Script) → TypesLaid parsed.now.text.now parsed.now.tables.now (types_listed script) → HasDatatypes parsed.now.text.now declared.now P → IsResolved P (types_listed script) result }
 {
     let mut rows = Rows::new();
-    let count = tables.counts.types.min(TYPES);
+    let count = parsed.tables.counts.types.min(TYPES);
     for k in 0..count {
         let row = Row {
-            shape: shape_of(text, tables, declared, k)?,
-            past: type_at(tables, k).past,
-            result: result_row(tables, k),
+            shape: shape_of(parsed, declared, k)?,
+            past: type_at(parsed.tables, k).past,
+            result: result_row(parsed.tables, k),
         };
         rows.put(k, row);
     }

@@ -5,6 +5,13 @@ ghost use Rattle.layout.specs.TypeEncoding.{unused_type};
 
 use layout::{Constructor, Definition, Tables, TypeForm, TypeNode, Word};
 
+// A script that was read: its text, and its tables.
+#[derive(Clone, Copy)]
+pub(crate) struct Parsed<'a> {
+    pub(crate) text: &'a [u8],
+    pub(crate) tables: &'a Tables,
+}
+
 const UNUSED_CONSTRUCTOR: Constructor = Constructor {
     place: 0,
     name: Word { place: 0, size: 0 },

@@ -11,10 +11,13 @@ ghost use Rattle.program.specs.Programs.{Name, program, global_of, first_of};
 ghost use Rattle.typing.specs.Verdict.{main_stands};
 
 use super::declarations::Declarations;
+use super::declaring::FIRST_DEFINE;
 use super::define_types::DefineTypes;
 use super::global::Global;
 use super::pairing::pair;
+use super::refusing::refused;
 use super::resolving::resolve;
+use super::tables::Parsed;
 use super::variant::{NO_VARIANT, Variant};
 use basis::Basis;
 use layout::Tables;
@@ -56,7 +59,7 @@ impl Globals {
     {
         match Basis::try_from(n as u32) {
             Ok(basis) => basis_type(basis),
-            Err(_) => self.define_type((n as usize).saturating_sub(33)),
+            Err(_) => self.define_type((n as usize).saturating_sub(FIRST_DEFINE as usize)),
         }
     }
 
@@ -92,9 +95,10 @@ impl Globals {
     pub fn read(text: &[u8], tables: &Tables) -> Result<Globals, Refused>
         ensures { (script : Script) → Laid text.now tables.now script → IsWhole text.now script result }
     {
-        let declared = Declarations::read(text, tables)?;
-        let rows = resolve(text, tables, &declared)?;
-        let types = pair(text, tables, &declared, &rows)?;
+        let parsed = Parsed { text, tables };
+        let declared = Declarations::read(&parsed)?;
+        let rows = resolve(&parsed, &declared)?;
+        let types = pair(&parsed, &declared, &rows)?;
         let globals = Globals {
             declared,
             rows,
@@ -103,9 +107,6 @@ impl Globals {
         if globals.has_main(text) {
             return Ok(globals);
         }
-        Err(Refused {
-            refusal: Refusal::NoMain,
-            place: 0,
-        })
+        Err(refused(Refusal::NoMain, 0))
     }
 }

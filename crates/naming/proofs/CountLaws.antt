@@ -10,10 +10,6 @@ pub record Counting (text : List ℕ) (at count : ℕ) (xs : List PatternPart) :
   pub stand : PartsAt text at left
   pub all : length xs ≡ count + length left
 
-module _ (text : List ℕ) (at count : ℕ) (xs : List PatternPart) (c : Counting text at count xs) where
-  pub counting_start : PartsAt text at xs → Counting text at 0 xs
-  counting_start s = record { left = xs; stand = s; all = omega arith }
-
 module _ (text : List ℕ) (count : ℕ) (all : List PatternPart) where
   pub counting_part : (xs : List PatternPart) (part : Part) → length all ≡ count + length xs → IsPart text xs (Some part) → Counting text part.after (count + 1) all
   counting_part [] part e at = absurd at

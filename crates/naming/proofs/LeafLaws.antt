@@ -18,7 +18,7 @@ use Rattle.names.specs.Parts.{part_of}
 use Rattle.naming.specs.Judges.{Desk, Setting, Ready, Lying, Coded, Enters, EntersAnswers, ExprAnswers, names, meant, vals_of, rows_of, text_of}
 use Rattle.naming.specs.Leaves.{datatype_kind}
 use Rattle.naming.specs.declared.world.World.{World}
-use Rattle.naming.proofs.KindLaws.{datum_kind, val_some, val_none}
+use Rattle.naming.proofs.KindLaws.{datum_kind, val_some}
 use Rattle.program.specs.Compiling.{code, global_op, name_op, dup_op}
 use Rattle.program.specs.Programs as means
 use Rattle.program.specs.Programs.{Name, program, global_of}
@@ -66,10 +66,6 @@ module _ (world : World) (script : Script) (set : Setting world script) where
       valid = set.vals k kind f;
       noted = s ∙ ap (λ g. slice_set codes i (code (global_op g) node.place node.past)) (sym e);
     }
-
-    pub enters_later : (k : ℕ) (r : Refused) (after : List Code) → global_of (program script) w ≡ means.val k → slice_get world.vals.now k ≡ None → r ≡ refused_at refusal.Unknown node.place
-        → EntersAnswers world script w i node codes (Err r) after
-    enters_later k r after e f s = λ Γ. enter_at (means.val k) e Γ ∙ ap (λ o. known node.place o Γ) (val_none world script k f) ∙ ap refused (sym s)
 
   -- Names that are entered and dupped, among these.
   module _ (old : Desk) (ready : Ready world script old) where

@@ -1,4 +1,5 @@
 // Names in the bodies of a script: those that are entered or dupped, and those that bindings, patterns and parameters bind.
+// (Scope and locals go side by side: a guard lends the scope alone, so that a struct of both would be made anew at each call.)
 #![tactic(auto)]
 
 mod binding;

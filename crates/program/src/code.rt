@@ -2,7 +2,7 @@
 
 // What a node does. An entry's distance is how far it lies below the newest entry: arguments handed over lie among the names, so
 // that it is the same in every run.
-#[derive(Clone, Copy)]
+#[derive(Clone, Copy, PartialEq, Eq)]
 pub enum Op {
     // an entry that no node uses
     Unused,
@@ -36,7 +36,7 @@ pub enum Op {
     Branch(u16, u8),
 }
 
-#[derive(Clone, Copy)]
+#[derive(Clone, Copy, PartialEq, Eq)]
 pub struct Code {
     pub op: Op,
     // the place of the form's first byte

@@ -3,14 +3,14 @@ use super::code::Code;
 use layout::Word;
 
 // A define: the node of its body, and how many parameters it has.
-#[derive(Clone, Copy)]
+#[derive(Clone, Copy, PartialEq, Eq)]
 pub struct FunctionCode {
     pub body: u16,
     pub arity: u16,
 }
 
 // A define or a val: its place, and its name as a part of the text.
-#[derive(Clone, Copy)]
+#[derive(Clone, Copy, PartialEq, Eq)]
 pub struct Owner {
     pub place: u16,
     pub name: Word,

@@ -11,15 +11,8 @@ use Rattle.globals.proofs.pairing.pair.Goals as goal
 pub loop-definition-init : goal.loop-definition-init
 loop-definition-init c = record {
   few = omega arith;
-  pairing = λ script laid n has. pairing_start c.args.text.now c.args.tables.now script (meaning (program script) (types_listed script)) c.args.rows.now _ refl laid;
+  pairing = λ script laid n has. pairing_start c.args.parsed.now.text.now c.args.parsed.now.tables.now script (meaning (program script) (types_listed script)) c.args.rows.now _ refl laid;
 }
-
-pub pair_one-requires : goal.pair_one-requires
-pair_one-requires c =
-    let few = c.loop-definition.invariant.few in
-    let test = c.loop-definition-test.true in
-    let many = c.definitions-definition-items.ensures.many in
-    omega arith
 
 pub loop-definition-preserved : goal.loop-definition-preserved
 loop-definition-preserved c = record {
@@ -29,11 +22,11 @@ loop-definition-preserved c = record {
       let items = c.definitions-definition-items.result.now in
       let test = c.loop-definition-test.true in
       let many = c.definitions-definition-items.ensures.many in
-      let within : k < min c.args.tables.now.counts.definitions 832 = omega arith in
-      pairing_next c.args.text.now c.args.tables.now script (meaning (program script) (types_listed script)) c.args.rows.now k c.loop-definition.defines c.loop-definition.types.types (get_or items k definition.Unused) (omega arith)
-      (entry_listed c.args.text.now c.args.tables.now items k c.definitions-definition-items.ensures.items within)
+      let within : k < min c.args.parsed.now.tables.now.counts.definitions 832 = omega arith in
+      pairing_next c.args.parsed.now.text.now c.args.parsed.now.tables.now script (meaning (program script) (types_listed script)) c.args.rows.now k c.loop-definition.defines c.loop-definition.types.types (get_or items k definition.Unused) (omega arith)
+      (entry_listed c.args.parsed.now.text.now c.args.parsed.now.tables.now items k c.definitions-definition-items.ensures.items within)
       c.in_ok-defines.defines c.pair_one.new.types.types
-      (λ k d lies. c.in_ok-defines.ensures.pairs c.args.tables.now script k d n has laid.types.few lies) (c.loop-definition.invariant.pairing script laid n has);
+      (λ k d lies. c.in_ok-defines.ensures.pairs c.args.parsed.now.tables.now script k d n has laid.types.few lies) (c.loop-definition.invariant.pairing script laid n has);
 }
 
 pub returns-in_err-defines : goal.returns-in_err-defines
@@ -42,17 +35,17 @@ returns-in_err-defines c = λ script laid n has.
     let items = c.definitions-definition-items.result.now in
     let test = c.loop-definition-test.true in
     let many = c.definitions-definition-items.ensures.many in
-    let within : k < min c.args.tables.now.counts.definitions 832 = omega arith in
+    let within : k < min c.args.parsed.now.tables.now.counts.definitions 832 = omega arith in
     let r = c.in_err-defines.field-0.0 in
     let is : c.from_residual.result ≡ Err r = search rules in
     subst (ArePaired (program script) script (meaning (program script) (types_listed script)) c.args.rows.now) (sym is)
-    (pairing_refused c.args.text.now c.args.tables.now script (meaning (program script) (types_listed script)) c.args.rows.now k c.loop-definition.defines c.loop-definition.types.types (get_or items k definition.Unused) (omega arith)
-    (entry_listed c.args.text.now c.args.tables.now items k c.definitions-definition-items.ensures.items within)
-    r (λ k d lies. c.in_err-defines.ensures.pairs c.args.tables.now script k d n has laid.types.few lies) (c.loop-definition.invariant.pairing script laid n has))
+    (pairing_refused c.args.parsed.now.text.now c.args.parsed.now.tables.now script (meaning (program script) (types_listed script)) c.args.rows.now k c.loop-definition.defines c.loop-definition.types.types (get_or items k definition.Unused) (omega arith)
+    (entry_listed c.args.parsed.now.text.now c.args.parsed.now.tables.now items k c.definitions-definition-items.ensures.items within)
+    r (λ k d lies. c.in_err-defines.ensures.pairs c.args.parsed.now.tables.now script k d n has laid.types.few lies) (c.loop-definition.invariant.pairing script laid n has))
 
 pub returns : goal.returns
 returns c = λ script laid n has.
     let test = c.loop-definition-test.false in
     let many = c.definitions-definition-items.ensures.many in
     let entries = laid.entries in
-    pairing_end c.args.text.now c.args.tables.now script (meaning (program script) (types_listed script)) c.args.rows.now c.loop-definition.definition-index c.loop-definition.defines c.loop-definition.types.types (omega arith) (c.loop-definition.invariant.pairing script laid n has)
+    pairing_end c.args.parsed.now.text.now c.args.parsed.now.tables.now script (meaning (program script) (types_listed script)) c.args.rows.now c.loop-definition.definition-index c.loop-definition.defines c.loop-definition.types.types (omega arith) (c.loop-definition.invariant.pairing script laid n has)

@@ -10,6 +10,6 @@ use Rattle.globals.proofs.pairing.pair.Given as goal
 abbrev pub invariant-loop-definition : goal.invariant-loop-definition
 invariant-loop-definition l = record {
   few : l.defines ≤ l.definition-index;
-  pairing : (script : Script) → Laid l.text l.tables script → Named l.text l.declared script → HasRows (program script) (types_listed script) l.rows.rows
-      → Pairing l.text l.tables script (meaning (program script) (types_listed script)) l.rows l.definition-index l.defines l.types.types;
+  pairing : (script : Script) → Laid l.parsed.text.now l.parsed.tables.now script → Named l.parsed.text.now l.declared script → HasRows (program script) (types_listed script) l.rows.rows
+      → Pairing l.parsed.text.now l.parsed.tables.now script (meaning (program script) (types_listed script)) l.rows l.definition-index l.defines l.types.types;
 }

@@ -1,10 +1,9 @@
-use Rattle.std.proofs.Common.{◌≡◌, ◌+◌, ◌<◌, length, Err, sym, ap, ◌∙◌, subst, arith, rules}
-use Rattle.globals.specs.Types.{IsResolved}
+use Rattle.std.proofs.Common.{◌≡◌, ◌+◌, ◌<◌, length, sym, ap, ◌∙◌, subst, arith}
 use Rattle.grammar.specs.Limits.{type_count}
 use Rattle.layout.specs.declared.type_node.TypeNode.{TypeNode}
 use Rattle.type_rows.specs.TypeExprs.{types_listed, row_of, expr_at, head_shape}
 use Rattle.type_rows.specs.declared.row.Row.{Row}
-use Rattle.globals.proofs.TypeRows.{Resolving, resolving_next, resolving_refused, resolving_end}
+use Rattle.globals.proofs.TypeRows.{Resolving, resolving_next, resolving_end}
 use Rattle.globals.proofs.TypeShapes.{past_of}
 use Rattle.globals.proofs.resolving.resolve.Goals as goal
 
@@ -17,22 +16,13 @@ loop-k-preserved c = λ P script laid datatypes.
     let low : k < length all = omega arith in
     let here = c.in_ok-shape_of.ensures P script laid datatypes low in
     let row : Row = record { shape = c.in_ok-shape_of.field-0; past = c.type_at.result.past; result = c.result_row.result } in
-    let past : c.type_at.result.past ≡ k + type_count (expr_at all k) = ap (λ (n : TypeNode). n.past) c.type_at.ensures ∙ past_of c.args.text.now c.args.tables.now script laid k low in
-    let result = c.result_row.ensures c.args.text.now script laid low in
+    let past : c.type_at.result.past ≡ k + type_count (expr_at all k) = ap (λ (n : TypeNode). n.past) c.type_at.ensures ∙ past_of c.args.parsed.now.text.now c.args.parsed.now.tables.now script laid k low in
+    let result = c.result_row.ensures c.args.parsed.now.text.now script laid low in
     let is : row ≡ row_of P k (expr_at all k) =
     ap (λ s. record { shape = s; past = c.type_at.result.past; result = c.result_row.result }) here.0
     ∙ ap (λ p. record { shape = head_shape P (expr_at all k); past = p; result = c.result_row.result }) past
     ∙ ap (λ r. record { shape = head_shape P (expr_at all k); past = k + type_count (expr_at all k); result = r }) result in
     subst (Resolving P all (k + 1)) (sym c.put.ensures) (resolving_next P all k c.loop-k.rows.rows row low few is here.1 (c.loop-k.invariant P script laid datatypes))
-
-pub returns-in_err-shape_of : goal.returns-in_err-shape_of
-returns-in_err-shape_of c = λ P script laid datatypes.
-    let count = laid.count in
-    let low : c.loop-k.k < length (types_listed script) = omega arith in
-    let r = c.in_err-shape_of.field-0.0 in
-    let is : c.from_residual.result ≡ Err r = search rules in
-    subst (IsResolved P (types_listed script)) (sym is)
-    (resolving_refused P (types_listed script) c.loop-k.k c.loop-k.rows.rows r low (c.in_err-shape_of.ensures P script laid datatypes low) (c.loop-k.invariant P script laid datatypes))
 
 pub returns : goal.returns
 returns c = λ P script laid datatypes.

@@ -13,4 +13,4 @@ returns-clause-holds c = λ t k x h lies many low room.
     let made : Variant = record { datatype = c.args.datatype; first = entry.first; past = entry.past; fields = entry.fields } in
     let v : ◌≡◌ {A = Variant} made (record { datatype = c.args.datatype; first = k; past = k + types_count x.fields; fields = types_length x.fields }) = search rules in
     let long = c.put.ensures.long in
-    also_variant c.args.text.now c.bind.new.self (also_bound x.name (means.constructor c.args.i) t) c.args.i c.put.new.xs made _ g many (omega arith) c.put.ensures.written v
+    also_variant c.args.parsed.now.text.now c.bind.new.self (also_bound x.name (means.constructor c.args.i) t) c.args.i c.put.new.xs made _ g many (omega arith) c.put.ensures.written v

@@ -9,7 +9,7 @@ use Rattle.globals.proofs.Listed.{entry_listed}
 use Rattle.globals.proofs.declarations.Declarations.read.Goals as goal
 
 pub loop-definition-init : goal.loop-definition-init
-loop-definition-init c = λ script l. gather_start c.args.text.now c.args.tables.now script c.new-declared.result l (c.new-declared.ensures c.args.text.now)
+loop-definition-init c = λ script l. gather_start c.args.parsed.now.text.now c.args.parsed.now.tables.now script c.new-declared.result l (c.new-declared.ensures c.args.parsed.now.text.now)
 
 pub loop-definition-preserved : goal.loop-definition-preserved
 loop-definition-preserved c = λ script l.
@@ -17,9 +17,9 @@ loop-definition-preserved c = λ script l.
     let items = c.definitions-definition-items.result.now in
     let test = c.loop-definition-test.true in
     let many = c.definitions-definition-items.ensures.many in
-    let within : k < min c.args.tables.now.counts.definitions 832 = omega arith in
-    gather_next c.args.text.now c.args.tables.now script k c.loop-definition.declared c.declare.new.self (get_or items k definition.Unused) (omega arith)
-    (entry_listed c.args.text.now c.args.tables.now items k c.definitions-definition-items.ensures.items within) c.in_ok-declare.ensures.told_names c.in_ok-declare.ensures.holds
+    let within : k < min c.args.parsed.now.tables.now.counts.definitions 832 = omega arith in
+    gather_next c.args.parsed.now.text.now c.args.parsed.now.tables.now script k c.loop-definition.declared c.declare.new.self (get_or items k definition.Unused) (omega arith)
+    (entry_listed c.args.parsed.now.text.now c.args.parsed.now.tables.now items k c.definitions-definition-items.ensures.items within) c.in_ok-declare.ensures.told_names c.in_ok-declare.ensures.holds
     (c.loop-definition.invariant script l)
 
 pub returns-in_err-declare-clause-names : goal.returns-in_err-declare-clause-names
@@ -28,11 +28,11 @@ returns-in_err-declare-clause-names c = λ script l.
     let items = c.definitions-definition-items.result.now in
     let test = c.loop-definition-test.true in
     let many = c.definitions-definition-items.ensures.many in
-    let within : k < min c.args.tables.now.counts.definitions 832 = omega arith in
+    let within : k < min c.args.parsed.now.tables.now.counts.definitions 832 = omega arith in
     let r = c.in_err-declare.field-0.0 in
     let is : c.from_residual.result ≡ Err r = search rules in
-    gather_refused c.args.text.now c.args.tables.now script k c.loop-definition.declared (get_or items k definition.Unused) r (omega arith)
-    (entry_listed c.args.text.now c.args.tables.now items k c.definitions-definition-items.ensures.items within) c.in_err-declare.ensures.told_names (c.loop-definition.invariant script l)
+    gather_refused c.args.parsed.now.text.now c.args.parsed.now.tables.now script k c.loop-definition.declared (get_or items k definition.Unused) r (omega arith)
+    (entry_listed c.args.parsed.now.text.now c.args.parsed.now.tables.now items k c.definitions-definition-items.ensures.items within) c.in_err-declare.ensures.told_names (c.loop-definition.invariant script l)
     ∙ sym (ap (λ (x : Result _ Refused). told x accepted) is)
 
 pub returns-clause-names : goal.returns-clause-names
@@ -41,7 +41,7 @@ returns-clause-names c = λ script l.
     let many = c.definitions-definition-items.ensures.many in
     let entries = l.entries in
     let g = c.loop-definition.invariant script l in
-    let e = gather_end c.args.text.now c.args.tables.now script c.loop-definition.definition-index c.loop-definition.declared (omega arith) g in
+    let e = gather_end c.args.parsed.now.text.now c.args.parsed.now.tables.now script c.loop-definition.definition-index c.loop-definition.declared (omega arith) g in
     g.said ∙ ap (names_from g.tally) e.0
 
 pub returns-clause-holds : goal.returns-clause-holds
@@ -50,5 +50,5 @@ returns-clause-holds c = λ script l.
     let many = c.definitions-definition-items.ensures.many in
     let entries = l.entries in
     let g = c.loop-definition.invariant script l in
-    let e = gather_end c.args.text.now c.args.tables.now script c.loop-definition.definition-index c.loop-definition.declared (omega arith) g in
-    subst (Holds c.args.text.now c.loop-definition.declared) (sym e.1) g.holds
+    let e = gather_end c.args.parsed.now.text.now c.args.parsed.now.tables.now script c.loop-definition.definition-index c.loop-definition.declared (omega arith) g in
+    subst (Holds c.args.parsed.now.text.now c.loop-definition.declared) (sym e.1) g.holds

@@ -1,8 +1,9 @@
-use Rattle.std.proofs.Common.{◌≡◌, Err, sym, ◌∙◌, subst, rules}
+use Rattle.std.proofs.Common.{◌≡◌, Err, sym, ap, ◌∙◌, subst, rules}
 use Rattle.globals.specs.Known.{IsWhole, Known}
 use Rattle.globals.specs.declared.whole.Globals.{Globals}
 use Rattle.program.specs.Programs.{program}
 use Rattle.type_rows.specs.TypeExprs.{types_listed}
+use Rattle.typing.specs.Verdict.{refused}
 use Rattle.type_rows.proofs.ScriptRows.{order_script, rows_mean}
 use Rattle.globals.proofs.Tallied.{named_by}
 use Rattle.globals.proofs.WholeVerdicts.{types_refused, pairs_refused, main_left}
@@ -61,4 +62,4 @@ returns c = λ script laid.
       few = laid.types.few;
       types = paired.1;
     } in
-    main_left script once resolved.0 paired.0 ∙ c.if-has_main.ensures script known
+    main_left script once resolved.0 paired.0 ∙ c.if-has_main.ensures script known ∙ ap refused (sym c.refused.ensures)
