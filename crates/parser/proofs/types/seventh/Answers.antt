@@ -25,11 +25,3 @@ pub returns-else-is_arrow : goal.returns-else-is_arrow
 returns-else-is_arrow c =
     let sees = c.in-Open.ensures in
     seventh_list c.args.source.now.text.now c.args.place sees.0 sees.1.0 c.in-Open.at c.in-Open.inside c.survey.result false c.wrong-else-is_arrow.result sees.1.1 c.survey.ensures c.if-is_arrow.ensures c.wrong-else-is_arrow.ensures
-
-pub returns-in-Close : goal.returns-in-Close
-returns-in-Close c =
-    let sees = c.in-Close.ensures in
-    λ s rest e a. absurd (not_close sees.0 _ sees.1.0 _ s rest a (sym sees.1.1.follows ∙ e))
-
-pub returns-in-End : goal.returns-in-End
-returns-in-End c = λ s rest e a. absurd (some_token _ s rest c.in-End.ensures e)

@@ -2,21 +2,12 @@ use Rattle.std.proofs.Common.{◌≡◌, ◌<◌, ◌≤◌, length, Some, sym, 
 use Rattle.std.proofs.lemmas.Bool.{both_ways}
 use Rattle.std.proofs.lemmas.Slice.Eq.{bytes_eq-Decides}
 use Rattle.layout.specs.Tabling.{unused_word}
-use Rattle.names.specs.Indexing.{last_in, bucket_at}
-use Rattle.names.specs.Parts.{part_of, bucket_of}
+use Rattle.names.specs.Parts.{part_of}
 use Rattle.names.proofs.Adding.{none_by}
 use Rattle.names.proofs.Chains.{is_last}
 use Rattle.names.proofs.Finding.{name_at, missed, ended, next}
 use Rattle.names.proofs.Numbered.{numbered, number_below, numbered_is}
 use Rattle.names.proofs.index.Index.find.Goals as goal
-
-pub chain-init : goal.chain-init
-chain-init c = record {
-  few = omega arith;
-  used = omega arith;
-  chain = λ ix. let e = ix.heads c.bucket.result c.bucket.ensures.few in let few = ix.few in let n : c.min-below.result ≡ c.args.self.now.count = omega arith in e ∙ ap (λ h. last_in (bucket_at c.args.text.now c.args.self.now) h c.args.self.now.count) c.bucket.ensures.value ∙ ap (last_in (bucket_at c.args.text.now c.args.self.now) (bucket_of c.args.name.now)) (sym n);
-  others = λ ix k high low. absurd (let few = ix.few in omega arith);
-}
 
 pub returns-then-k-below-clause-found : goal.returns-then-k-below-clause-found
 returns-then-k-below-clause-found c = λ ix.
