@@ -1,13 +1,12 @@
 -- What stands next, as a token by itself or a list.
-use Rattle.std.proofs.Common.{◌≡◌, ℕ, false, List, Some, None, Option, sym, ap, ◌∙◌, subst, arith}
+use Rattle.std.proofs.Common.{◌≡◌, ℕ, false, List, Some, None, Option, sym, ap, subst, arith}
 use Rattle.std.specs.Option.{is_some}
 use Rattle.text.specs.Grammar.{NoBracket}
 use Rattle.text.specs.Tokens.{Lexeme, lexeme, Lexed, also, lexed_from}
 use Rattle.text.specs.declared.bracket.Bracket.{Bracket}
 use Rattle.text.specs.declared.token.TokenKind.{TokenKind}
 use Rattle.text.specs.declared.token.TokenKind.TheVariants as kind
-use Rattle.forms.specs.Looks.{Seen, NotClosing, Closes}
-use Rattle.grammar.specs.Reading.{Tally}
+use Rattle.forms.specs.Looks.{NotClosing, Closes}
 use Rattle.forms.specs.Rows.{closed_by}
 use Rattle.grammar.specs.Sexps.{Sexp, atom, list, Sexps, opening, Atoms, AllAtoms}
 use Rattle.grammar.specs.Streams.{stream}

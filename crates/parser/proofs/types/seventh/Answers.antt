@@ -1,6 +1,5 @@
-use Rattle.std.proofs.Common.{true, false, sym, ap, ◌∙◌}
+use Rattle.std.proofs.Common.{true, false, sym, ap}
 use Rattle.grammar.specs.Reading.{is_some}
-use Rattle.forms.proofs.LookLaws.{not_close, some_token}
 use Rattle.parser.proofs.TypeLaws.{no_type, some_type, seventh_atom, seventh_list}
 use Rattle.parser.proofs.types.seventh.Goals as goal
 
