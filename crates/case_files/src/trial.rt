@@ -1,0 +1,21 @@
+// What a program does with the cases.
+use super::answer::Answer;
+use std::alloc::{AllocError, Global};
+
+// What is found of a text.
+#[derive(Drop)]
+pub struct Found {
+    pub answer: Answer,
+    // a line for each token, node or entry; empty where the text is refused
+    pub listing: String,
+    // what is wrong beside the answer
+    pub complaint: Option<&'static str>,
+}
+
+pub trait Trial {
+    // A line of the program's own words, for the case that is being read; none where it is no such line.
+    fn set(&mut self, word: &str, rest: &str) -> Option<()>;
+
+    // What is found of the text of a case. What was set for it is forgotten.
+    fn found(&mut self, heap: Global, text: &[u8]) -> Result<Found, AllocError>;
+}
