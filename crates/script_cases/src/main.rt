@@ -1,16 +1,9 @@
-// The cases of reading: reads `cases.txt`, gives each text with a node list to `read` and compares with the answer that stands beside it.
-// Prints a line for each group of cases, and a line for each case whose answer differs.
+// The cases of reading: gives each text of `cases.txt` with a node list to `read` and compares with the answer that stands beside it.
 //
-// A line of the file is a word and, after one space, the rest. Lines that are empty or begin with `#` are skipped.
+// The file reads as `case_files` says, with two words more:
 //
-//   group TITLE                     begins a group of cases
 //   lent N                          the node list has N entries; 4096 where a case does not say
-//   text BYTES                      adds the rest of the line to the text of the case
-//   times N BYTES                   adds the bytes N times
-//   hex DIGITS                      adds the bytes that the digits write, two digits each
 //   row WORDS                       one line of what reading leaves: a node, or an entry of a table. A case lists all of them, or none
-//   accepted COUNT                  ends the case: the text is a script, with so many nodes
-//   refused NUMBER PLACE            ends the case: the text is refused
 //
 // A case without a `text`, `times` or `hex` line is the empty text.
 //
@@ -26,23 +19,14 @@
 //   type PLACE PAST FORM                                 function NAME ANNOTATION DEFINE, `-` for none
 #![tactic(auto)]
 
-mod answer;
-mod case;
-mod line;
 mod node_rows;
 mod rows;
-mod run;
-mod tally;
+mod scripts;
 
-use line::parse_line;
-use run::Run;
-use std::{fs, io};
+use case_files::run_cases;
+use scripts::Scripts;
+use std::io;
 
 fn main(rt: HostRuntime) -> io::Result<()> {
-    let file = fs::read_to_string(&rt, "cases.txt")?;
-    let mut run = Run::new(rt.alloc());
-    for line in file.as_str().lines() {
-        run.take(&rt, parse_line(line))?;
-    }
-    run.finish(&rt)
+    run_cases(&rt, "row", Scripts::new())
 }

@@ -1,43 +1,47 @@
 // The rows of a script's nodes.
 use layout::{Node, NodeForm, Word};
 use std::alloc::{AllocError, Global};
+use std::fmt;
 
-fn word_form(heap: Global, form: &str, word: Word) -> Result<String, AllocError> {
-    let place = word.place;
-    let size = word.size;
-    format!(in heap; "{form} {place} {size}")
+// A name by its place and size.
+#[derive(Clone, Copy)]
+pub struct Named(pub Word);
+
+impl fmt::Display for Named {
+    fn fmt<W: fmt::Write>(&self, f: &mut fmt::Formatter<W>) -> fmt::Result {
+        write!(f, "{} {}", self.0.place, self.0.size)
+    }
 }
 
-fn number_form(heap: Global, form: &str, number: i64) -> Result<String, AllocError> {
-    format!(in heap; "{form} {number}")
-}
+// A form with what it carries.
+#[derive(Clone, Copy)]
+struct Form(NodeForm);
 
-fn form_words(heap: Global, form: NodeForm) -> Result<String, AllocError> {
-    match form {
-        NodeForm::Unused => String::from_str(heap, "unused"),
-        NodeForm::Integer(n) => number_form(heap, "integer", i64::from(n)),
-        NodeForm::Symbol(place) => number_form(heap, "symbol", i64::from(place)),
-        NodeForm::Boolean(true) => String::from_str(heap, "boolean true"),
-        NodeForm::Boolean(false) => String::from_str(heap, "boolean false"),
-        NodeForm::Unit => String::from_str(heap, "unit"),
-        NodeForm::Name(size) => number_form(heap, "name", i64::from(size)),
-        NodeForm::If => String::from_str(heap, "if"),
-        NodeForm::Begin => String::from_str(heap, "begin"),
-        NodeForm::Let => String::from_str(heap, "let"),
-        NodeForm::Case => String::from_str(heap, "case"),
-        NodeForm::Dup(word) => word_form(heap, "dup", word),
-        NodeForm::Apply => String::from_str(heap, "apply"),
-        NodeForm::Binding(word) => word_form(heap, "binding", word),
-        NodeForm::Branch(place) => number_form(heap, "branch", i64::from(place)),
+impl fmt::Display for Form {
+    fn fmt<W: fmt::Write>(&self, f: &mut fmt::Formatter<W>) -> fmt::Result {
+        match self.0 {
+            NodeForm::Unused => f.write_str("unused"),
+            NodeForm::Integer(n) => write!(f, "integer {n}"),
+            NodeForm::Symbol(place) => write!(f, "symbol {place}"),
+            NodeForm::Boolean(b) => write!(f, "boolean {b}"),
+            NodeForm::Unit => f.write_str("unit"),
+            NodeForm::Name(size) => write!(f, "name {size}"),
+            NodeForm::If => f.write_str("if"),
+            NodeForm::Begin => f.write_str("begin"),
+            NodeForm::Let => f.write_str("let"),
+            NodeForm::Case => f.write_str("case"),
+            NodeForm::Dup(word) => write!(f, "dup {}", Named(word)),
+            NodeForm::Apply => f.write_str("apply"),
+            NodeForm::Binding(word) => write!(f, "binding {}", Named(word)),
+            NodeForm::Branch(place) => write!(f, "branch {place}"),
+        }
     }
 }
 
 pub fn add_nodes(heap: Global, rows: &mut String, nodes: &[Node]) -> Result<(), AllocError> {
     for node in nodes {
-        let place = node.place;
-        let past = node.past;
-        let words = form_words(heap, node.form)?;
-        rows.push_str(format!(in heap; "node {place} {past} {words}\n")?.as_str())?;
+        let row = format!(in heap; "node {} {} {}\n", node.place, node.past, Form(node.form))?;
+        rows.push_str(row.as_str())?;
     }
     Ok(())
 }

@@ -1,0 +1,102 @@
+// What reading finds of the text of a case.
+use super::rows::rows_of;
+use case_files::{Found, Refused, Trial};
+use layout::{Node, NodeForm};
+use parser::{Script, read};
+use std::alloc::{AllocError, Global};
+
+// How many entries a node list has where a case does not say.
+const LENT: usize = 4096;
+
+const UNUSED: Node = Node {
+    form: NodeForm::Unused,
+    place: 0,
+    past: 0,
+};
+
+// What stands in the node list before a case.
+const USED: Node = Node {
+    form: NodeForm::If,
+    place: 7,
+    past: 9,
+};
+
+// What no script's first node is.
+const OTHER: Node = Node {
+    form: NodeForm::Unit,
+    place: 65535,
+    past: 0,
+};
+
+// How many entries the node list of the next text has.
+#[derive(Clone, Copy)]
+pub struct Scripts {
+    lent: usize,
+}
+
+impl Scripts {
+    pub fn new() -> Scripts {
+        Scripts { lent: LENT }
+    }
+}
+
+fn is_unused(nodes: &[Node]) -> bool {
+    nodes.iter().all(|node| *node == UNUSED)
+}
+
+// Whether the script knows the node list again, and not with its first entry changed.
+fn knows(script: &Script<'_>, nodes: &mut [Node]) -> bool {
+    if !script.is_left(nodes) {
+        return false;
+    }
+    match nodes.first_mut() {
+        Some(node) => *node = OTHER,
+        None => return true,
+    }
+    !script.is_left(nodes)
+}
+
+// Where the node list is not left as it has to be.
+fn complaint(left: bool) -> Option<&'static str> {
+    if left {
+        None
+    } else {
+        Some("the node list is not left as it has to be")
+    }
+}
+
+impl Trial for Scripts {
+    fn set(&mut self, word: &str, rest: &str) -> Option<()> {
+        if word != "lent" {
+            return None;
+        }
+        self.lent = rest.parse::<usize>().ok()?;
+        Some(())
+    }
+
+    fn found(&mut self, heap: Global, text: &[u8]) -> Result<Found, AllocError> {
+        let mut nodes = vec![in heap; USED; self.lent]?;
+        self.lent = LENT;
+        match read(text, &mut nodes) {
+            Ok(script) => {
+                let count = script.nodes().len();
+                let left = is_unused(&nodes[count.min(nodes.len())..])
+                    && script.lent() == nodes.len()
+                    && knows(&script, &mut nodes);
+                Ok(Found {
+                    answer: Ok(count),
+                    listing: rows_of(heap, &script)?,
+                    complaint: complaint(left),
+                })
+            }
+            Err(refused) => Ok(Found {
+                answer: Err(Refused {
+                    number: refused.refusal.number(),
+                    place: refused.place,
+                }),
+                listing: String::new(heap),
+                complaint: complaint(is_unused(&nodes)),
+            }),
+        }
+    }
+}
