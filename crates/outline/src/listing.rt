@@ -3,6 +3,7 @@ use explain::shown;
 use std::io;
 use text::{Reader, Token, TokenKind};
 
+// the name is padded where it is printed, which a text is and a `Display` of its own is not
 fn kind_name(kind: TokenKind) -> &'static str {
     match kind {
         TokenKind::Open(_) => "open",
@@ -15,19 +16,17 @@ fn kind_name(kind: TokenKind) -> &'static str {
 }
 
 fn print_token(rt: &HostRuntime, token: Token<'_>) -> io::Result<()> {
-    let place = token.place;
-    let kind = kind_name(token.kind);
-    let word = shown(rt.alloc(), token.bytes)?;
+    let Token { kind, place, bytes } = token;
+    let kind = kind_name(kind);
+    let word = shown(rt.alloc(), bytes)?;
     println!(rt; "{place:>5} {kind:<7} {word}")
 }
 
-// Prints the `count` tokens that a text is known to have.
+// Prints the tokens of a text that is known to have `count` of them.
 pub fn list_tokens(rt: &HostRuntime, text: &[u8], count: usize) -> io::Result<()> {
     let mut reader = Reader::new(text);
-    for _ in 0..count {
-        if let Ok(Some(token)) = reader.next() {
-            print_token(rt, token)?;
-        }
+    while let Ok(Some(token)) = reader.next() {
+        print_token(rt, token)?;
     }
     println!(rt; "{count} tokens")
 }
