@@ -1,6 +1,5 @@
 // A sentence for each refusal of the text layer: what is wrong, and what to do.
 use advice::refusal_advice;
-use script_refusals::of_reading;
 use text::{Refusal, Refused};
 
 // The limits of a text alone; the sentence for whole scripts names more.
@@ -10,6 +9,6 @@ const LIMIT: &str =
 pub fn text_advice(refused: Refused) -> &'static str {
     match refused.refusal {
         Refusal::Limit => LIMIT,
-        _ => refusal_advice(of_reading(refused).refusal),
+        _ => refusal_advice(script_refusals::Refusal::from(refused.refusal)),
     }
 }
