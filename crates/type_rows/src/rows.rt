@@ -52,10 +52,11 @@ impl Rows {
     }
 
     // Whether two rows and their parts look the same.
-    fn look_same(&self, x: usize, y: usize) -> bool
-        requires { (x < 65536) × (y < 65536) }
+    fn look_same(&self, x: u16, y: u16) -> bool
         ensures { MatchBool result (LookSame self.now.rows x y) (LookSame self.now.rows x y → ⊥) }
     {
+        let x = x as usize;
+        let y = y as usize;
         let size = (self.row(x).past as usize).saturating_sub(x);
         if (self.row(y).past as usize).saturating_sub(y) != size {
             return false;
@@ -71,7 +72,7 @@ impl Rows {
     {
         match a {
             ValueType::Function(x) => match b {
-                ValueType::Function(y) => self.look_same(x as usize, y as usize),
+                ValueType::Function(y) => self.look_same(x, y),
                 _ => false,
             },
             _ => a == b,

@@ -3,7 +3,7 @@ use Rattle.basis.specs.declared.function.Basis.{Basis}
 use Rattle.type_rows.specs.Rows.{shape_at}
 use Rattle.type_rows.specs.declared.shape.Shape.TheVariants as shape
 use Rattle.type_rows.specs.Signatures.{StandRows, root_of, signature_rows, stored}
-use Rattle.type_rows.proofs.SignatureLaws.{number_below, signed_more, only_more, blank_shape, length_stored}
+use Rattle.type_rows.proofs.SignatureLaws.{signed_more, only_more, blank_shape, length_stored}
 use Rattle.type_rows.proofs.rows.Rows.new.Goals as goal
 use Rattle.type_rows.proofs.rows.Rows.new.Goals.{in-Ok, in_default}
 
@@ -25,6 +25,3 @@ loop-n-preserved c = elim c.match-try_from.branch [
       let past : 33 ≤ c.loop-n.n = w.in_default.ensures.2 in
       absurd (omega arith)
 ]
-
-pub returns : goal.returns
-returns c = record { signed = λ f. c.loop-n.invariant.signed f (let low = number_below f in omega arith); only = c.loop-n.invariant.only }
