@@ -13,12 +13,10 @@ use text::Reader;
 fn between(literal: &[u8]) -> &[u8]
     ensures { result.now ≡ unquoted literal.now }
 {
-    let size = literal.len();
-    if size < 2 {
-        return &[];
+    match literal {
+        [_, inner @ .., _] => inner,
+        _ => &[],
     }
-    let end = size - 1;
-    &literal[1..end]
 }
 
 // The bytes between the quotes of the literal at this place.

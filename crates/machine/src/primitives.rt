@@ -1,5 +1,5 @@
-// The calls that every step ends in: what they answer is what the step came to.
-ghost use Rattle.std.specs.Prelude.{◌≡◌, ℕ, List, [], ◌∷◌};
+// The calls that every step ends in: what they answer is what the step came to. Only wait can fail.
+ghost use Rattle.std.specs.Prelude.{◌≡◌, ℕ, List, [], ◌∷◌, Ok};
 ghost use Rattle.cells.specs.Meaning.{Cells};
 ghost use Rattle.data.specs.Trees.{Tree, none, more};
 ghost use Rattle.grammar.specs.Trees.{Expr};
@@ -18,6 +18,7 @@ use rules::FaultKind;
 impl<'a> Machine<'a> {
     // The expression at this node is next.
     pub fn go(&mut self, node: u16) -> Result<(), FaultKind>
+        ensures taken { result ≡ Ok tt }
         ensures steady { Steady self.old self.new }
         ensures law { (P : Program) (Z : Sizes) (m₀ m : Cells) (s : State) (K : List Waits) (env : Environment) (a : Account) (e : Expr)
             → Rests P Z m₀ K env a [] none self.old m → StandsAt P self.old.script.now.code (names env) e node
@@ -29,6 +30,7 @@ impl<'a> Machine<'a> {
 
     // A value is finished.
     pub fn finish(&mut self, value: Value) -> Result<(), FaultKind>
+        ensures taken { result ≡ Ok tt }
         ensures steady { Steady self.old self.new }
         ensures law { (P : Program) (Z : Sizes) (m₀ m : Cells) (s : State) (K : List Waits) (env : Environment) (a : Account) (t : Tree)
             → Rests P Z m₀ K env a (value ∷ []) (more t none) self.old m
