@@ -12,6 +12,7 @@ pub enum ArithmeticFault {
 }
 
 impl ArithmeticFault {
+    // A method and no conversion: by the project's rule the enum's definition shows the numbers, and a contract gives them.
     pub fn number(self) -> u8
         ensures { result ≡ fault_number self }
     {

@@ -40,6 +40,7 @@ pub enum Basis {
 }
 
 impl Basis {
+    // A method and no conversion: by the project's rule the enum's definition shows the numbers, and a contract gives them.
     pub fn number(self) -> u32
         ensures value { result ≡ number_of self }
         ensures back { numbered result ≡ Some self }

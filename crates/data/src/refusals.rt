@@ -15,6 +15,7 @@ pub enum WalkRefusal {
 
 impl WalkRefusal {
     // The refusal's number.
+    // A method and no conversion: by the project's rule the enum's definition shows the numbers, and a contract gives them.
     pub fn number(self) -> u8
         ensures { result ≡ refusal_number self }
     {

@@ -15,10 +15,10 @@ ghost use Rattle.rules.specs.Steps.{Sizes, select_branch, hand};
 use super::choice::Choice;
 use super::choosing::choose;
 use super::fields::{bind_fields, names_in};
-use data::drops::drop_value;
 use cells::records::CellRecord;
 use cells::store::CellStore;
 use cells::values::Value;
+use data::drops::drop_value;
 use machine::{Frame, Machine, after, code_at};
 use rules::FaultKind;
 

@@ -14,10 +14,10 @@ ghost use Rattle.rules.specs.States.{Environment};
 ghost use Rattle.rules.specs.Steps.{binds, bind_parts};
 ghost use Rattle.stack.specs.Items.{tops, room_of};
 
-use data::drops::drop_value;
 use cells::records::CellRecord;
 use cells::store::CellStore;
 use cells::values::Value;
+use data::drops::drop_value;
 use machine::Slot;
 use stack::Stack;
 

@@ -14,9 +14,9 @@ ghost use Rattle.rules.specs.States.{Frame as Waits, finished as has_finished};
 ghost use Rattle.rules.specs.Steps.{Sizes, hand};
 ghost use Rattle.stack.specs.Items.{tops, room_of};
 
-use data::drops::drop_value;
 use cells::store::CellStore;
 use cells::values::Value;
+use data::drops::drop_value;
 use machine::{Control, Frame, Machine, Slot};
 use rules::FaultKind;
 use stack::Stack;

@@ -8,9 +8,9 @@ ghost use Rattle.rules.specs.States.{Environment, Account, st};
 ghost use Rattle.rules.specs.States.{Frame as Waits, finished as has_finished};
 ghost use Rattle.rules.specs.Steps.{Sizes, hand};
 
-use data::drops::drop_value;
 use cells::store::CellStore;
 use cells::values::Value;
+use data::drops::drop_value;
 use machine::{Frame, Machine, Slot, bind_next, code_at};
 use rules::FaultKind;
 

@@ -5,8 +5,8 @@ ghost use Rattle.rules.specs.Steps.{fault_kind};
 ghost use Rattle.rules.specs.declared.fault.FaultKind.TheVariants as kind;
 
 use basis::{ArithmeticFault, Basis};
-use data::refusals::WalkRefusal;
 use cells::refusals::StoreRefusal;
+use data::refusals::WalkRefusal;
 use layout::Word;
 use stack::Full;
 
@@ -30,6 +30,7 @@ pub enum FaultKind {
 }
 
 impl FaultKind {
+    // A method and no conversion: by the project's rule the enum's definition shows the numbers, and a contract gives them.
     pub fn number(self) -> u8
         ensures { result ≡ number_of self }
     {

@@ -34,6 +34,7 @@ pub enum Refusal {
 }
 
 impl Refusal {
+    // A method and no conversion: by the project's rule the enum's definition shows the numbers, and a contract gives them.
     pub fn number(self) -> u8
         ensures { result ≡ number_of self }
     {
@@ -42,6 +43,7 @@ impl Refusal {
 }
 
 // A refusal with its place, the offset from 0 of the byte that it is about.
+// A type beside the one of reading, and none generic over the refusal: contracts write either as a record of its own fields, which is plainer.
 #[derive(Clone, Copy, PartialEq, Eq)]
 pub struct Refused {
     pub refusal: Refusal,

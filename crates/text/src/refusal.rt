@@ -20,6 +20,7 @@ pub enum Refusal {
 }
 
 impl Refusal {
+    // A method and no conversion: by the project's rule the enum's definition shows the numbers, and a contract gives them.
     pub fn number(self) -> u8
         ensures { result ≡ number_of self }
     {
