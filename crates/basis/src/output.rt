@@ -8,6 +8,7 @@ pub fn put(bytes: &[u8], out: &mut [u8]) -> Option<usize>
     ensures after { out.new ≡ over bytes.now out.old }
 {
     let n = bytes.len();
+    // A test and not `get_mut(..n)?`: of a part that was written through it no more than its length would be known.
     if n <= out.len() {
         out[..n].copy_from_slice(bytes);
         Some(n)

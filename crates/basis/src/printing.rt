@@ -30,6 +30,7 @@ pub fn write_print(print: Print, body: &[u8], out: &mut [u8]) -> Option<usize>
     ensures count { result ≡ fitting (printed print body.now) out.old }
     ensures after { out.new ≡ over (printed print body.now) out.old }
 {
+    // A closed enum, whose cases are written each in its own way.
     match print {
         Print::Int(n) => write_decimal(n, out),
         Print::Bool(b) => put(bool_text(b), out),

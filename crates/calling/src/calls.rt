@@ -27,6 +27,7 @@ use rules::FaultKind;
 const BASIS: u32 = 33;
 
 // How many arguments lie on the slots for a function of the basis.
+// No function of the basis takes more than two, so of more none is counted.
 fn count_of(held: Held) -> usize
     ensures { result ≡ held_count held }
 {

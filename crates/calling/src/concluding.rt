@@ -72,6 +72,7 @@ pub fn conclude(
         → Mirrors P Z m₀ s machine.old m → Under P Z m₀ count K env a machine.old m → SaysApplied P machine.old.text.now applied
         → Printed P Z m₀ s out.old (answers P Z basis K env a applied) result machine.new m out.new }
 {
+    // A closed enum, whose cases each have a rule of their own.
     match applied {
         Applied::Int(number) => unprinted(give(machine, count, Value::Int(number))),
         Applied::Bool(truth) => unprinted(give(machine, count, Value::Bool(truth))),

@@ -9,6 +9,7 @@ pub struct CheckCase<'c> {
     pub verdict: Result<(), Refused>,
 }
 
+// By number, as the file writes it: any number may stand there.
 #[derive(Clone, Copy, PartialEq, Eq)]
 pub struct Refused {
     pub number: u32,
@@ -59,6 +60,7 @@ pub enum End<'c> {
     Faulted(Fault<'c>),
 }
 
+// By number, as the file writes it.
 #[derive(Clone, Copy, PartialEq, Eq)]
 pub struct Fault<'c> {
     pub number: u32,

@@ -11,7 +11,7 @@ impl<'c> Front<'c> {
     fn verdict(&mut self) -> Result<Result<(), Refused>, Malformed>
         ensures { Takes result self.old.left.now self.new.left.now verdict_then }
     {
-        if let Ok(_) = self.word(b"accepted\n") {
+        if self.word(b"accepted\n").is_ok() {
             return Ok(Ok(()));
         }
         let number = self.numbered(b"refused ")?;

@@ -33,6 +33,7 @@ pub fn copy_value<S: CellStore>(store: &mut S, value: Value) -> Result<Value, Wa
     if !room {
         return Err(WalkRefusal::NoFreeCell);
     }
+    // A match, since the store gives cells back before the refusal goes on.
     match copy_cells(store, value) {
         Ok(copy) => Ok(copy),
         Err(left) => {

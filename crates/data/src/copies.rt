@@ -67,6 +67,7 @@ fn copy_data<S: CellStore>(store: &mut S, number: u32) -> Result<Value, Unfinish
     ensures { CopiesCells (S.CellStore.cells store.old) (Value.Cell number) result (S.CellStore.cells store.new) }
 {
     let limit = store.live_count() as u32;
+    // The walk's own refusal is dropped here: nothing waits yet, and the caller is told so.
     let Ok(first) = copy_cell(store, number, END) else {
         return Err(Unfinished {
             waiting: END,
@@ -77,6 +78,7 @@ fn copy_data<S: CellStore>(store: &mut S, number: u32) -> Result<Value, Unfinish
     let mut finished = END;
     let mut count: u32 = 0;
     'walk: while waiting != END {
+        // The count is the walk's measure and its limit, no index.
         if count >= limit {
             return Err(Unfinished { waiting, finished });
         }

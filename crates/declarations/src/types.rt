@@ -61,6 +61,7 @@ impl<'s> Types<'s> {
         let past = self.past_of(at);
         let mut last = at;
         let mut next = at.saturating_add(1);
+        // Each entry tells where the next part is, so there is no slice to go over.
         for _ in 0..PARTS {
             if next < past {
                 last = next;

@@ -28,6 +28,7 @@ pub fn enter<S: CellStore>(
         → Moved P Z m₀ (st K env (enters e) a) (enter_expr P Z K env a e) result machine.new (S.CellStore.cells store.new) }
 {
     let code = code_at(machine.script, at as usize);
+    // By what the node does: these are all cases, and code is a table of values, so a match and no closures.
     match code.op {
         Op::Integer(number) => machine.finish(Value::Int(number)),
         Op::Symbol(number) => machine.finish(Value::Sym(number as u32)),

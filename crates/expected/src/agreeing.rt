@@ -8,6 +8,7 @@ use rules::{Advanced, Closed};
 use script_refusals::Refused;
 
 // A script with this verdict expected was accepted, or refused with a number at a place.
+// Functions and no `==`: the two sides are types of other crates, and not the same.
 pub fn verdict_agrees(expected: Result<(), cases::Refused>, refused: Option<Refused>) -> bool
     ensures { IsTrue result ↔ VerdictAgrees expected refused }
 {

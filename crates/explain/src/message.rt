@@ -8,6 +8,7 @@ use super::rows::{mark_row, shown};
 use std::alloc::{AllocError, Global};
 
 // The refusal with this number at this place of the text, and the advice.
+// It takes a number, since it stands below every crate that has refusals. The text, the place and the heap are what each call has.
 pub fn explanation(
     heap: Global,
     text: &[u8],

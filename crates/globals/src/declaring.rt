@@ -143,6 +143,7 @@ impl Declarations {
         Ok(())
     }
 
+    // (The same for each of the two counters: one function of both would take which, and match on it.)
     // A val, with the next number among the vals.
     fn bind_val(&mut self, parsed: &Parsed<'_>, val: Val) -> Result<(), Refused>
         ensures { Declared parsed.now.text.now parsed.now.tables.now (Definition.Val val) self.old result self.new }

@@ -89,6 +89,7 @@ pub(crate) fn pair(
     let mut types = DefineTypes {
         types: [ValueType::Unit; 256],
     };
+    // Only defines are counted, and a refusal may come between two.
     let mut defines: usize = 0;
     for &definition in definitions(parsed.tables) {
         defines = pair_one(parsed.text, declared, rows, definition, &mut types, defines)?;

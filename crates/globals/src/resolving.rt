@@ -99,6 +99,7 @@ pub(crate) fn resolve(parsed: &Parsed<'_>, declared: &Declarations) -> Result<Ro
 {
     let mut rows = Rows::new();
     let count = parsed.tables.counts.types.min(TYPES);
+    // By number: it is the row's, and each row looks at the nodes behind its own.
     for k in 0..count {
         let row = Row {
             shape: shape_of(parsed, declared, k)?,

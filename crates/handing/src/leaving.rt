@@ -40,6 +40,7 @@ pub fn leave<S: CellStore>(slots: &mut Stack<'_, Slot>, store: &mut S, count: u1
         → Leaves count vs ts env (tops slots.old) result (tops slots.new) (S.CellStore.cells store.new) m₀ }
 {
     let mut total = 0;
+    // No index: so many are popped.
     for _i in 0..count {
         let slot = slots.pop()?;
         let number = drop_slot(store, slot)?;

@@ -1,4 +1,5 @@
 // Steps that hand a finished value to the expression that waits for it, one function for each row of the rules.
+// Each row takes the machine, and the store where it changes it, and then the fields of its frame; a struct of these would be made for one call.
 #![tactic(auto)]
 
 mod arguments;

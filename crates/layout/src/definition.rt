@@ -52,7 +52,7 @@ pub struct Val {
 
 #[derive(Clone, Copy, PartialEq, Eq)]
 pub enum Definition {
-    // an entry that no definition uses
+    // an entry that no definition uses; a case, since the list is of one fixed size and an `Option` around each entry takes more room
     Unused,
     Datatype(Datatype),
     Annotation(Annotation),

@@ -17,6 +17,7 @@ pub struct Function {
 }
 
 // The entries in the order in which they were opened. Each annotation and each define opens one at most.
+// An array with its count: a library takes no heap.
 #[derive(Clone, Copy)]
 pub struct Functions {
     pub count: usize,

@@ -5,7 +5,7 @@ use super::Word;
 // What a node is.
 #[derive(Clone, Copy, PartialEq, Eq)]
 pub enum NodeForm {
-    // an entry that no node uses
+    // an entry that no node uses; a case, since the list is of one fixed size and an `Option` around each entry takes more room
     Unused,
     Integer(i32),
     // the place of the first literal with the same bytes

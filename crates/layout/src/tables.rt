@@ -1,6 +1,7 @@
 // The tables of a script, each as large as the limits allow, in text order; the counts say how many entries are used.
 use super::{Constructor, Counts, Definition, Functions, TypeNode, Word};
 
+// Arrays with their counts: a library takes no heap.
 #[derive(Clone, Copy)]
 pub struct Tables {
     pub counts: Counts,

@@ -4,7 +4,7 @@
 // What a type expression is. The name of a datatype is a part of the text: its place is the node's own.
 #[derive(Clone, Copy, PartialEq, Eq)]
 pub enum TypeForm {
-    // an entry that no type expression uses
+    // an entry that no type expression uses; a case, since the list is of one fixed size and an `Option` around each entry takes more room
     Unused,
     Int,
     Bool,

@@ -86,7 +86,7 @@ pub record Onto (P : Program) (K : List Frame) (env env' : Environment) (f : Fra
   pub waits : (fs : List Waiting) → Waits P r.script.now.code (names env) K fs → Waits P r.script.now.code (names env') (f ∷ K) (frame ∷ fs)
   pub same : env' ++ kept (f ∷ K) ≡ env ++ kept K
 
--- the counts do not fall
+-- the counts do not fall. It compares a machine with itself before the call, so no ghost field can say it; and it holds where `Moved` says nothing.
 pub record Steady (old new : Machine) : Type 0 where
   pub taken : old.taken ≤ new.taken
   pub given : old.given ≤ new.given

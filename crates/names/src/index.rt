@@ -10,6 +10,7 @@ use layout::Word;
 const MOST: usize = 512;
 
 #[derive(Clone, Copy)]
+// Arrays side by side: a map of the library would take heap.
 pub struct Index {
     // the newest name of each bucket
     heads: [Option<u16>; 256],

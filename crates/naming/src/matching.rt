@@ -24,6 +24,7 @@ fn count_parts(text: &[u8], place: usize) -> usize
 {
     let mut at = place;
     let mut count: usize = 0;
+    // Tokens are followed, and counted.
     'parts: while let Some(part) = next_part(text, at) {
         at = part.after;
         count = count.saturating_add(1);
@@ -32,6 +33,7 @@ fn count_parts(text: &[u8], place: usize) -> usize
 }
 
 // A pattern that does not fit, at itself.
+// Beside `mismatch` of a node, whose place has 16 bits: one function for both widths would be generic, and longer than the two.
 fn unlike(place: usize) -> Refused
     ensures { result ≡ refused_at Mismatch place }
 {

@@ -17,6 +17,7 @@ fn fits(text: &[u8], entry: Function, half: Half, name: Word) -> bool
 }
 
 // The first entry that fits, or the number of the next entry where none does.
+// Not an `Option`: where none fits, the number is that of the entry to be opened.
 fn find(text: &[u8], functions: &Functions, half: Half, name: Word) -> usize
     requires { functions.now.count ≤ 768 }
     ensures { result ≡ position (fits_word text.now half name) (take functions.now.count functions.now.entries) }

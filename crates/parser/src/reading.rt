@@ -84,6 +84,7 @@ pub fn read<'t>(text: &'t [u8], nodes: &mut [Node]) -> Result<Script<'t>, Refuse
     clear(nodes);
     let source = Source::new(text)?;
     let mut tables = blank();
+    // The list is cleared before the refusal goes on; a closure under `map_err` would hold the list beside the call.
     if let Err(refused) = definitions(&source, nodes, &mut tables) {
         clear(nodes);
         return Err(refused);

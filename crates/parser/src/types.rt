@@ -204,6 +204,7 @@ fn listed_types(
         if let Some(after) = closing_at(source.text, at.place) {
             return Ok(Spot { place: after, ..at });
         }
+        // The count is a limit and no index: what is read are tokens.
         if count >= LISTED {
             return Err(seventh(source, at.place));
         }

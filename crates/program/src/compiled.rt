@@ -16,6 +16,7 @@ pub struct Owner {
     pub name: Word,
 }
 
+// Arrays with their counts: a library takes no heap.
 #[derive(Drop)]
 pub struct Compiled {
     pub code: [Code; 4096],

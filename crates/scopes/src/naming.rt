@@ -18,6 +18,7 @@ pub fn local_at(locals: &[Local], k: usize) -> Local
 pub fn find(text: &[u8], locals: &[Local], depth: usize, name: &[u8]) -> Option<usize>
     ensures { FindsLocal text.now locals.now name.now depth result }
 {
+    // By number, which is the answer; of what a range gives backwards under `find` the library has no fact.
     'names: for k in (0..depth).rev() {
         if name == part(text, local_at(locals, k).name) {
             return Some(k);

@@ -60,6 +60,7 @@ impl<'a, T: Copy> Stack<'a, T> {
         self.lent.len()
     }
 
+    // (`room`, `slice` and `loan` are clauses of each call that changes the stack: what a call leaves as it was is no fact of one value.)
     // `x` goes on top, unless all room is used: then nothing changes.
     pub fn push(&mut self, x: T) -> Result<(), Full>
         ensures fits { elim result [ Ok _ ↦ length (tops self.old) < room_of self.old | Err _ ↦ length (tops self.old) ≡ room_of self.old ] }

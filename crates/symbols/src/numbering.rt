@@ -33,6 +33,7 @@ pub fn number_symbols(text: &[u8], nodes: &mut [Node])
 {
     let mut index = Index::new();
     let count = nodes.len().min(NODES);
+    // By number: the invariant speaks of the nodes before and behind it, in the list as it is written.
     for i in 0..count {
         if let NodeForm::Symbol(place) = nodes[i].form {
             let first = first_place(&mut index, text, place);

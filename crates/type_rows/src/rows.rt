@@ -16,6 +16,7 @@ pub struct Rows {
 }
 
 // The type of a value whose row has this shape and this number.
+// A function and no `From`: it takes the row's number, too.
 fn kind_of(k: u16, shape: Shape) -> ValueType
     ensures { result ≡ kind_of k shape }
 {

@@ -11,6 +11,7 @@ use shelf::Shelf;
 use std::io;
 use tours::tour::walk_all;
 
+// What differs from the other program is how to copy, over each of four stores: a closure cannot be generic over the store, so it is passed in each call.
 fn main(rt: HostRuntime) -> io::Result<()> {
     let out = rt.stdout();
     let mut chain_slots = vec![in rt.alloc(); ChainSlot::Free(0); 65535]?;

@@ -34,6 +34,7 @@ impl<'t> Reader<'t> {
     {
         let text = self.text;
         let place = self.place + separator_len(&text[self.place..]);
+        // A match, since each of the three does something else; of a `map_err` the proof would know more words than the code has.
         match front_of(&text[place..]) {
             Ok(None) => {
                 self.place = place;
