@@ -1,5 +1,4 @@
 pub mod Runs
-pub mod Letters
 pub mod Digits
 pub mod TokenLaws
 pub mod ScanLaws
