@@ -1,7 +1,6 @@
 // What a case expects of a text, and what is found of it.
 
-// A refusal by its number, and its place.
-// By number, since a file may write any, and two programs with refusals of their own share it.
+// A refusal by its number, as the file writes it and whatever crate refuses, and its place.
 #[derive(Clone, Copy, Debug, PartialEq, Eq)]
 pub struct Refused {
     pub number: u8,

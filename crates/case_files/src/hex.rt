@@ -8,6 +8,7 @@ fn nibble(digit: u8) -> u8
     ensures value { result ≡ nibble digit }
     ensures few { result < 16 }
 {
+    // `to_digit(16)` takes capitals too
     match digit {
         b'0'..=b'9' => digit - b'0',
         b'a'..=b'f' => digit - b'a' + 10,

@@ -17,7 +17,7 @@ struct Run<'w, T> {
     group: Tally,
     whole: Tally,
     title: String,
-    // the number of the line, from 1
+    // the number of the line, from 1; refusals at the file's end tell the last one, so it stands here and not beside `lines()`
     line: u32,
 }
 

@@ -36,6 +36,7 @@ fn magnitude(digits: &[u8]) -> Option<u32>
     ensures { result ≡ capped (decimal 0 digits.now) }
 {
     let mut n: u32 = 0;
+    // `parse` reads text, takes a sign, and its error would be dropped
     for d in digits {
         n = n.checked_mul(10)?.checked_add(u32::from(*d - b'0'))?;
     }

@@ -1,4 +1,5 @@
-// Why a script is refused, and where. The layers above refuse with cases of the same enum, so all numbers stand in one place.
+// Why reading refuses a script, and where. `script_refusals` has these and those of the check in an enum of its own: reading must not
+// know the latter.
 ghost use Rattle.std.specs.Prelude.{◌≡◌};
 ghost use Rattle.text.specs.Refusals.{number_of};
 

@@ -34,7 +34,7 @@ impl<'t> Reader<'t> {
     {
         let text = self.text;
         let place = self.place + separator_len(&text[self.place..]);
-        // A match, since each of the three does something else; of a `map_err` the proof would know more words than the code has.
+        // by `map_err` and `?` a proof has to say what the closure did, which is longer than these three arms
         match front_of(&text[place..]) {
             Ok(None) => {
                 self.place = place;
