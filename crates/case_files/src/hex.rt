@@ -3,7 +3,6 @@ ghost use Rattle.std.specs.Prelude.{◌≡◌, ◌+◌, ◌*◌, ◌<◌};
 ghost use Rattle.case_files.specs.Hex.{nibble};
 
 // What a digit from 0 to 9 or from a to f writes; other bytes write nothing.
-// Not the library's `to_digit(16)`, which takes capitals, too.
 fn nibble(digit: u8) -> u8
     ensures value { result ≡ nibble digit }
     ensures few { result < 16 }

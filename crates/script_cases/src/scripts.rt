@@ -58,11 +58,7 @@ fn knows(script: &Script<'_>, nodes: &mut [Node]) -> bool {
 
 // Where the node list is not left as it has to be.
 fn complaint(left: bool) -> Option<&'static str> {
-    if left {
-        None
-    } else {
-        Some("the node list is not left as it has to be")
-    }
+    (!left).then_some("the node list is not left as it has to be")
 }
 
 impl Trial for Scripts {
