@@ -3,7 +3,7 @@ use super::global::Global;
 use super::variant::Variant;
 use names::Index;
 
-// (Memory is fixed, and a generic struct holds no array of a type parameter: so the values stand in arrays beside the indexes.)
+// Memory is fixed, and a generic struct holds no array of a type parameter: so the values stand in arrays beside the indexes.
 #[derive(Clone, Copy)]
 pub struct Declarations {
     pub(crate) bound: Index,

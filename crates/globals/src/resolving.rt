@@ -17,8 +17,8 @@ use type_rows::{Row, Rows, Shape};
 // The most type expressions.
 const TYPES: usize = 512;
 
-// The parts of a function type: how many parameters it has, and the row of its result type. (A walk from part to part, whose last place and
-// count are both wanted: an iterator over the places would give one of them.)
+// The parts of a function type: how many parameters it has, and the row of its result type.
+// A walk from part to part finds them: its last place and its count are both wanted, and an iterator would give one of them.
 #[derive(Clone, Copy)]
 struct Parts {
     count: u16,

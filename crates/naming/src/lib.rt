@@ -1,6 +1,6 @@
 // Names in the bodies of a script: those that are entered or dupped, and those that bindings, patterns and parameters bind.
-// (Scope and locals go side by side: a guard lends the scope alone, so that a struct of both would be made anew at each call.)
-// (A world is what is only read; codes are written, so they are a loan of their own; a node's number and height are its own.)
+// Scope and locals go side by side: a guard lends the scope alone, so that a struct of both would be made anew at each call.
+// A world is what is only read; codes are written, so they are a loan of their own; a node's number and height are its own.
 #![tactic(auto)]
 
 mod binding;

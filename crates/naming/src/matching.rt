@@ -43,8 +43,8 @@ fn unlike(place: usize) -> Refused
     }
 }
 
-// The constructor that a pattern's head names, in a pattern at a place. (Here one meaning fits, and where a name is dupped none does: in one
-// function of both that would be a case more.)
+// The constructor that a pattern's head names, in a pattern at a place.
+// Here one meaning fits, and where a name is dupped none does: in one function of both that would be a case more.
 fn variant_of(world: &World<'_>, place: usize, word: Word, name: &[u8]) -> Result<u16, Refused>
     ensures { OnHead world.now place word.place name.now result }
 {

@@ -1,4 +1,5 @@
 // A name is consumed afterwards if some arm consumed it.
+// The marks are written by their numbers: after `iter_mut().zip(..)` nothing would be known of what was written.
 ghost use Rattle.std.specs.Prelude.{◌≡◌, ℕ, ◌<◌, ◌||◌, false, slice_index_or};
 
 pub fn join(marks: &mut [bool; 64], others: &[bool; 64])

@@ -3,7 +3,7 @@ ghost use Rattle.std.specs.Prelude.{◌≡◌, true, false, slice_set, slice_ind
 
 use entries::put;
 
-// (The marks stand beside the locals and not in them: each arm of a form begins with a copy of them, and the arms' marks are joined.)
+// The marks stand beside the locals and not in them: each arm of a form begins with a copy of them, and the arms' marks are joined.
 #[derive(Drop)]
 pub struct Scope {
     pub depth: usize,
