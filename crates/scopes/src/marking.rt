@@ -5,7 +5,6 @@ ghost use Rattle.std.specs.Prelude.{◌≡◌, ℕ, ◌<◌, ◌||◌, false, sl
 pub fn join(marks: &mut [bool; 64], others: &[bool; 64])
     ensures { (k : ℕ) → slice_index_or marks.new k false ≡ (slice_index_or marks.old k false || slice_index_or others.now k false) }
 {
-    // By place: after `iter_mut().zip(..)` nothing would be known of what was written.
     'places: for (i, other) in others.iter().enumerate() {
         marks[i] = marks[i] || *other;
     }
