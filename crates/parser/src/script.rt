@@ -63,7 +63,7 @@ impl<'t> Script<'t> {
     }
 }
 
-// Whether a list begins with these nodes. It compares entry by entry: of `starts_with` and `==` on lists of nodes the check finds no equation.
+// Whether a list begins with these nodes. It compares entry by entry: of `starts_with` on a list of nodes the check finds no equation.
 fn starts_with(nodes: &[Node], first: &[Node]) -> bool
     requires { length first.now ≤ length nodes.now }
     ensures { IsTrue result ↔ (take (length first.now) nodes.now ≡ first.now) }
