@@ -44,10 +44,10 @@ pub(crate) fn front_of(rest: &[u8]) -> Result<Option<Front>, Refusal>
     ensures value { result ≡ text_front rest.now }
     ensures within { Within result (length rest.now) }
 {
-    if rest.is_empty() {
+    let [first, inside @ ..] = rest else {
         return Ok(None);
-    }
-    match class_of(rest[0]) {
+    };
+    match class_of(*first) {
         Class::Open(shape) => Ok(Some(Front {
             kind: TokenKind::Open(shape),
             size: 1,
@@ -56,7 +56,7 @@ pub(crate) fn front_of(rest: &[u8]) -> Result<Option<Front>, Refusal>
             kind: TokenKind::Close(shape),
             size: 1,
         })),
-        Class::Quote => symbol_front(&rest[1..]).map(Some),
+        Class::Quote => symbol_front(inside).map(Some),
         Class::Word => word_front(rest).map(Some),
         Class::Blank | Class::Newline | Class::Comment => Ok(None),
     }
