@@ -5,7 +5,6 @@
 use cell_data::copies::copy_value;
 use chain::slots::ChainSlot;
 use chain::store::ChainStore;
-use marked::slots::MarkedSlot;
 use marked::store::MarkedStore;
 use shelf::Shelf;
 use std::io;
@@ -15,7 +14,7 @@ use tours::tour::walk_all;
 fn main(rt: HostRuntime) -> io::Result<()> {
     let out = rt.stdout();
     let mut chain_slots = vec![in rt.alloc(); ChainSlot::Free(0); 65535]?;
-    let mut marked_slots = vec![in rt.alloc(); MarkedSlot::Free; 65535]?;
+    let mut marked_slots = vec![in rt.alloc(); None; 65535]?;
     let mut store = ChainStore::new(chain_slots.as_mut_slice());
     if let Ok(tour) = walk_all(&mut store, &copy_value, true) {
         println!(out; "chain\n{tour}")?;

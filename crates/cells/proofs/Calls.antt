@@ -1,5 +1,5 @@
 -- One call, for clients: what it does to every other cell, to the count of live cells and to the capacity.
-use Rattle.std.proofs.Common.{◌≡◌, ℕ, zero, suc, ◌+◌, ◌<◌, true, false, ◌≢◌, [], ◌∷◌, length, set, is_some, is_ok, Some, None, Ok, Err, Option, Result, refl, ap, ◌∙◌, arith}
+use Rattle.std.proofs.Common.{◌≡◌, ℕ, zero, suc, ◌+◌, ◌<◌, ◌≤◌, true, false, ◌≢◌, [], ◌∷◌, length, set, is_some, is_ok, Some, None, Ok, Err, Option, Result, refl, ap, ◌∙◌, arith}
 use Rattle.std.specs.Option.{ok_or}
 use Rattle.std.proofs.lemmas.List.{length-set, get_or-set_same, get_or-set_other}
 use Rattle.std.proofs.lemmas.Bool.{false≢true, true≢false, both_ways}
@@ -45,6 +45,10 @@ taken_other {old} {r = r} {i = i} k ne t = ap (λ cs. at cs k) t.after ∙ at_ot
 pub taken_count : {old new : Cells} {r : CellRecord} {i : ℕ} → TakenAt old r i new → count_live new ≡ count_live old + 1
 taken_count {old} {r = r} {i = i} t = ap count_live t.after ∙ omega (arith, count_set old i (Some r) t.within, ap one t.free)
 
+-- one live cell more is no more than a store has cells
+pub taken_room : {old new : Cells} {r : CellRecord} {i : ℕ} → TakenAt old r i new → length new ≤ 65535 → count_live old + 1 ≤ 65535
+taken_room {new = new} t small = omega (arith, taken_count t, count_le new, small)
+
 pub taken_capacity : {old new : Cells} {r : CellRecord} {i : ℕ} → TakenAt old r i new → length new ≡ length old
 taken_capacity {old} {r = r} {i = i} t = ap length t.after ∙ length-set old i (Some r)
 
@@ -81,6 +85,11 @@ written_count {old} {i = i} {r = r} h =
 pub given_count : {old new : Cells} {i : ℕ} → Changed old i None new → count_live new + 1 ≡ count_live old
 given_count {old} {i = i} h =
     ap (λ cs. count_live cs + 1) h.after ∙ omega (arith, count_set old i None (live_within old i h.live), live_one (at old i) h.live)
+
+-- a write, by its answer
+pub written_live : {U : Type 0} (old : Cells) (i : ℕ) (r : CellRecord) (answer : Result U StoreRefusal) (new : Cells) → Written old i r answer new → count_live new ≡ count_live old
+written_live old i r (Ok u) new h = written_count h
+written_live old i r (Err e) new h = ap count_live h.same
 
 -- on a live cell they do not refuse, on any other number they do
 pub written_ok : {U : Type 0} (old : Cells) (i : ℕ) (r : CellRecord) (answer : Result U StoreRefusal) (new : Cells) → is_live old i ≡ true → Written old i r answer new → Changed old i (Some r) new

@@ -47,3 +47,7 @@ pub live_within : (cs : Cells) (i : ℕ) → is_live cs i ≡ true → i < lengt
 live_within [] i e = absurd (false≢true e)
 live_within (x ∷ xs) zero e = omega arith
 live_within (x ∷ xs) (suc i) e = omega (arith, live_within xs i e)
+
+-- where a cell is live, one counts
+pub live_some : (cs : Cells) (i : ℕ) → is_live cs i ≡ true → 1 ≤ count_live cs
+live_some cs i e = omega (arith, count_set cs i None (live_within cs i e), live_one (at cs i) e)

@@ -18,6 +18,7 @@ pub struct UnknownKind(pub u8);
 
 impl Kind {
     // The kind's number, 0 to 5.
+    // A method and no conversion: by the project's rule the enum's definition shows the numbers, and a contract gives them.
     pub fn number(self) -> u8
         ensures { result ≡ kind_number self }
     {

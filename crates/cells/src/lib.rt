@@ -3,6 +3,7 @@
 
 pub mod kinds;
 pub mod laws;
+pub mod lent;
 pub mod record_methods;
 pub mod records;
 pub mod refusals;

@@ -12,6 +12,7 @@ pub enum StoreRefusal {
 
 impl StoreRefusal {
     // The refusal's number.
+    // A method and no conversion: by the project's rule the enum's definition shows the numbers, and a contract gives them.
     pub fn number(self) -> u8
         ensures { result ≡ refusal_number self }
     {

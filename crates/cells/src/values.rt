@@ -45,6 +45,7 @@ impl Value {
     }
 
     // The value of this kind with this number; none exactly where the number is more than the kind allows.
+    // Two parameters, so no conversion trait fits.
     pub fn from_parts(kind: Kind, number: u32) -> Option<Value>
         ensures is { result ≡ value_of kind number }
         ensures exact { MatchOption result (most kind < number) (λ v. (number ≤ most kind) × (kind_of v ≡ kind) × (number_of v ≡ number)) }

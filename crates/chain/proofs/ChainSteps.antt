@@ -1,93 +1,114 @@
 -- What a write to a slot of the chain store leaves: the chain of free slots, and what the store means.
-use Rattle.std.proofs.Common.{◌≡◌, ℕ, zero, suc, ◌+◌, ◌-◌, ◌<◌, ◌≤◌, min, true, List, length, get_or, set, replicate, None, sym, refl, ap, ◌∙◌, arith}
-use Rattle.std.proofs.lemmas.List.{get_or_default}
-use Rattle.std.proofs.lemmas.Bool.{eqb-true, eq-eqb, both_ways}
+use Rattle.std.proofs.Common.{◌≡◌, ℕ, zero, suc, ◌+◌, ◌-◌, ◌<◌, ◌≤◌, min, true, false, List, map, length, get_or, set, is_some, Some, None, Ok, Err, MatchResult, Option, Result, sym, refl, ap, ◌∙◌, arith}
+use Rattle.std.specs.List.{slice_get}
+use Rattle.std.proofs.lemmas.Bool.{eqb-true, eq-eqb, false≢true, both_ways}
+use Rattle.std.proofs.lemmas.List.{length-map, get_or-map}
+use Rattle.std.proofs.lemmas.Option.{slice_get_within, slice_get-get_or, get_or_from_slice_get, none-some}
+use Rattle.cells.specs.declared.refusals.StoreRefusal.{StoreRefusal}
 use Rattle.cells.specs.declared.refusals.StoreRefusal.TheVariants.{NoFreeCell}
 use Rattle.cells.specs.declared.records.CellRecord.{CellRecord}
-use Rattle.cells.specs.Meaning.{count_live, Full}
-use Rattle.cells.proofs.CellLaws.{count_full}
+use Rattle.cells.specs.Meaning.{Cells, at, is_live, count_live, Full, Written}
+use Rattle.cells.specs.Lent.{front, meant}
+use Rattle.cells.proofs.CellLaws.{count_full, live_within}
+use Rattle.cells.proofs.Calls.{written_count}
+use Rattle.cells.proofs.LentLaws.{front_length, front_set, kept_size, count_within}
 use Rattle.chain.specs.declared.slots.ChainSlot.{ChainSlot}
 use Rattle.chain.specs.declared.slots.ChainSlot.TheVariants.{Free, Live}
-use Rattle.cells.specs.Lent.{front, meant}
 use Rattle.chain.specs.Chains.{chain_cell, is_free, next, slot_at, chained}
-use Rattle.cells.proofs.LentLaws.{front_set, front_length, front_at, meant_length, count_within, empty_meant, empty_count}
 use Rattle.chain.proofs.ChainLaws.{link_of, link_to, chained_live, chained_pop, chained_push}
 
-module _ (s : List ChainSlot) (capacity : ℕ) (sized : capacity ≡ min (length s) 65535) where
-  -- a slot that was read, as the chain has it
-  read_slot : (i : ℕ) (d x : ChainSlot) → i < capacity → get_or s i d ≡ x → slot_at (front s) i ≡ x
-  read_slot i d x h e =
-      get_or_default (front s) i (Free 0) d (omega (arith, front_length s capacity sized)) ∙ front_at s capacity i d sized h ∙ e
+not_free : (t : ChainSlot) (r : CellRecord) → chain_cell t ≡ Some r → is_free t ≡ false
+not_free (Free n) r h = absurd (none-some r h)
+not_free (Live q) r h = refl
+
+live_at : (cs : Cells) (i : ℕ) → is_live cs i ≡ true → (r : CellRecord) × (at cs i ≡ Some r)
+live_at cs i h = some (at cs i) h
+  where
+    some : (c : Option CellRecord) → is_some c ≡ true → (r : CellRecord) × (c ≡ Some r)
+    some None e = absurd (false≢true e)
+    some (Some r) e = (r, refl)
+
+module _ (xs : List ChainSlot) (capacity : ℕ) (long : length xs ≡ capacity) where
+  -- a live cell, as the chain has it
+  live_slot : (i : ℕ) (r : CellRecord) → at (map chain_cell xs) i ≡ Some r → (i < length xs) × (is_free (slot_at xs i) ≡ false)
+  live_slot i r h =
+      let w = live_within (map chain_cell xs) i (ap is_some h) in
+      let within : i < length xs = omega (arith, w, length-map xs chain_cell) in
+      (within, not_free (slot_at xs i) r (sym (get_or-map chain_cell xs i (Free 0) None within) ∙ h))
 
   -- an exhausted chain: every slot is live
-  pub full_chain : (free live : ℕ) → live ≡ count_live (meant chain_cell s) → chained (capacity - live) (front s) free ≡ true → capacity ≤ free → Full (meant chain_cell s) NoFreeCell (meant chain_cell s)
+  pub full_chain : (free live : ℕ) → live ≡ count_live (map chain_cell xs) → chained (capacity - live) xs free ≡ true → slice_get xs free ≡ None → Full (map chain_cell xs) NoFreeCell (map chain_cell xs)
   full_chain free live counted linked past = record {
     number = refl;
     same = refl;
-    full = λ k h. count_full (meant chain_cell s) k (none (capacity - live) refl linked) h;
+    full = λ k h. count_full (map chain_cell xs) k (none (capacity - live) refl linked) h;
   }
     where
-      none : (n : ℕ) → n ≡ capacity - live → chained n (front s) free ≡ true → count_live (meant chain_cell s) ≡ length (meant chain_cell s)
-      none zero e c =
-          let long = meant_length chain_cell s capacity sized in
-          let b = count_within chain_cell s capacity sized in
-          omega arith
-      none (suc n) e c = let w = (link_of n (front s) free c).within in absurd (omega (arith, front_length s capacity sized))
+      none : (n : ℕ) → n ≡ capacity - live → chained n xs free ≡ true → count_live (map chain_cell xs) ≡ length (map chain_cell xs)
+      none zero e c = omega (arith, length-map xs chain_cell, count_within chain_cell xs)
+      none (suc n) e c = absurd (none-some _ (sym past ∙ slice_get-get_or xs free (Free 0) (link_of n xs free c).within))
 
-  -- a chain that starts below the capacity has a link
-  pub headed : (free live : ℕ) → chained (capacity - live) (front s) free ≡ true → free < capacity → (m : ℕ) × (capacity - live ≡ suc m) × (chained (suc m) (front s) free ≡ true)
-  headed free live linked h = go (capacity - live) refl linked
+  -- a chain whose first slot is read has a link
+  headed : (free live : ℕ) (x : ChainSlot) → chained (capacity - live) xs free ≡ true → slice_get xs free ≡ Some x → (m : ℕ) × (capacity - live ≡ suc m) × (chained (suc m) xs free ≡ true)
+  headed free live x linked got = go (capacity - live) refl linked
     where
-      go : (n : ℕ) → capacity - live ≡ n → chained n (front s) free ≡ true → (m : ℕ) × (capacity - live ≡ suc m) × (chained (suc m) (front s) free ≡ true)
-      go zero e c = absurd (omega (arith, eqb-true free (length (front s)) c, front_length s capacity sized))
+      go : (n : ℕ) → capacity - live ≡ n → chained n xs free ≡ true → (m : ℕ) × (capacity - live ≡ suc m) × (chained (suc m) xs free ≡ true)
+      go zero e c = absurd (omega (arith, eqb-true free (length xs) c, slice_get_within xs free x got))
       go (suc m) e c = (m, e, c)
 
-  -- and its first slot is free
-  pub head_free : (free live : ℕ) (d : ChainSlot) (r : CellRecord) → chained (capacity - live) (front s) free ≡ true → free < capacity → get_or s free d ≡ Live r → ⊥
-  head_free free live d r linked h e =
-      let m = headed free live linked h in
-      both_ways (is_free (slot_at (front s) free)) (ap is_free (read_slot free d (Live r) h e)) (link_of m.0 (front s) free m.2).free
+  -- and that slot is free
+  pub head_free : (free live : ℕ) (r : CellRecord) → chained (capacity - live) xs free ≡ true → slice_get xs free ≡ Some (Live r) → ⊥
+  head_free free live r linked got =
+      let m = headed free live (Live r) linked got in
+      both_ways (is_free (slot_at xs free)) (ap is_free (get_or_from_slice_get xs free (Live r) (Free 0) got)) (link_of m.0 xs free m.2).free
 
-  pub taken_link : (free live : ℕ) (d : ChainSlot) (n : ℕ) (x : ChainSlot) → chained (capacity - live) (front s) free ≡ true → free < capacity → get_or s free d ≡ Free n → chained (capacity - (live + 1)) (front (set s free x)) n ≡ true
-  taken_link free live d n x linked h e =
-      let m = headed free live linked h in
+  pub taken_link : (free live n : ℕ) (x : ChainSlot) (ys : List ChainSlot) → chained (capacity - live) xs free ≡ true → slice_get xs free ≡ Some (Free n) → ys ≡ set xs free x → chained (capacity - (live + 1)) ys n ≡ true
+  taken_link free live n x ys linked got put =
+      let m = headed free live (Free n) linked got in
       let fuel : capacity - (live + 1) ≡ m.0 = omega (arith, m.1) in
-      ap (λ k. chained k (front (set s free x)) n) fuel
-      ∙ ap (λ t. chained m.0 t n) (front_set s free x)
-      ∙ ap (λ t. chained m.0 (set (front s) free x) (next t)) (sym (read_slot free d (Free n) h e))
-      ∙ chained_pop m.0 (front s) free x m.2
+      ap (λ k. chained k ys n) fuel
+      ∙ ap (λ t. chained m.0 t n) put
+      ∙ ap (λ t. chained m.0 (set xs free x) (next t)) (sym (get_or_from_slice_get xs free (Free n) (Free 0) got))
+      ∙ chained_pop m.0 xs free x m.2
 
-  pub given_link : (free live i : ℕ) (d : ChainSlot) (r : CellRecord) → live ≡ count_live (meant chain_cell s) → 1 ≤ live → chained (capacity - live) (front s) free ≡ true → i < capacity → get_or s i d ≡ Live r → chained (capacity - (live - 1)) (front (set s i (Free free))) i ≡ true
-  given_link free live i d r counted some linked h e =
-      let b = count_within chain_cell s capacity sized in
-      let fuel : capacity - (live - 1) ≡ suc (capacity - live) = omega arith in
-      ap (λ k. chained k (front (set s i (Free free))) i) fuel
-      ∙ ap (λ t. chained (suc (capacity - live)) t i) (front_set s i (Free free))
-      ∙ chained_push (capacity - live) (front s) free i (omega (arith, front_length s capacity sized)) (ap is_free (read_slot i d (Live r) h e)) linked
+  pub given_link : (free live i : ℕ) (r : CellRecord) (ys : List ChainSlot) → live ≡ count_live (map chain_cell xs) → 1 ≤ live → chained (capacity - live) xs free ≡ true → at (map chain_cell xs) i ≡ Some r → ys ≡ set xs i (Free free) → chained (capacity - (live - 1)) ys i ≡ true
+  given_link free live i r ys counted some linked h put =
+      let slot = live_slot i r h in
+      let fuel : capacity - (live - 1) ≡ suc (capacity - live) = omega (arith, count_within chain_cell xs) in
+      ap (λ k. chained k ys i) fuel
+      ∙ ap (λ t. chained (suc (capacity - live)) t i) put
+      ∙ chained_push (capacity - live) xs free i slot.0 slot.1 linked
 
-  pub written_link : (free live i : ℕ) (d : ChainSlot) (r : CellRecord) (x : ChainSlot) → chained (capacity - live) (front s) free ≡ true → i < capacity → get_or s i d ≡ Live r → chained (capacity - live) (front (set s i x)) free ≡ true
-  written_link free live i d r x linked h e =
-      ap (λ t. chained (capacity - live) t free) (front_set s i x)
-      ∙ chained_live (capacity - live) (front s) free i x (ap is_free (read_slot i d (Live r) h e)) linked
+  written_link : (free live i : ℕ) (r : CellRecord) (x : ChainSlot) (ys : List ChainSlot) → chained (capacity - live) xs free ≡ true → at (map chain_cell xs) i ≡ Some r → ys ≡ set xs i x → chained (capacity - live) ys free ≡ true
+  written_link free live i r x ys linked h put =
+      ap (λ t. chained (capacity - live) t free) put ∙ chained_live (capacity - live) xs free i x (live_slot i r h).1 linked
 
   -- slots as a new store has them: each free, with the next number
-  module _ (fresh : (k : ℕ) (d : ChainSlot) → k < capacity → get_or s k d ≡ Free (k + 1)) where
-    pub fresh_meant : meant chain_cell s ≡ replicate capacity None
-    fresh_meant = empty_meant chain_cell s capacity sized (λ k d h. ap chain_cell (fresh k d h))
-
-    pub fresh_count : 0 ≡ count_live (meant chain_cell s)
-    fresh_count = empty_count chain_cell s capacity sized (λ k d h. ap chain_cell (fresh k d h))
-
-    fresh_from : (n h : ℕ) → h + n ≡ capacity → chained n (front s) h ≡ true
-    fresh_from zero h e = eq-eqb h (length (front s)) (omega (arith, front_length s capacity sized))
+  module _ (fresh : (k : ℕ) (d : ChainSlot) → k < capacity → get_or xs k d ≡ Free (k + 1)) where
+    fresh_from : (n h : ℕ) → h + n ≡ capacity → chained n xs h ≡ true
+    fresh_from zero h e = eq-eqb h (length xs) (omega arith)
     fresh_from (suc n) h e =
-        let w : h < capacity = omega arith in
-        let is = read_slot h (Free 0) (Free (h + 1)) w (fresh h (Free 0) w) in
-        link_to n (front s) h record {
-          within = omega (arith, front_length s capacity sized);
+        let is = fresh h (Free 0) (omega arith) in
+        link_to n xs h record {
+          within = omega arith;
           free = ap is_free is;
-          rest = ap (λ t. chained n (front s) (next t)) is ∙ fresh_from n (h + 1) (omega arith);
+          rest = ap (λ t. chained n xs (next t)) is ∙ fresh_from n (h + 1) (omega arith);
         }
 
-    pub fresh_linked : chained (capacity - 0) (front s) 0 ≡ true
-    fresh_linked = let e : capacity - 0 ≡ capacity = omega arith in ap (λ n. chained n (front s) 0) e ∙ fresh_from capacity 0 (omega arith)
+    pub fresh_linked : chained (capacity - 0) xs 0 ≡ true
+    fresh_linked = let e : capacity - 0 ≡ capacity = omega arith in ap (λ n. chained n xs 0) e ∙ fresh_from capacity 0 (omega arith)
+
+-- a write, by its answer: as many slots in use, as many live cells, and the same chain
+pub written : (s : List ChainSlot) (capacity : ℕ) (sized : capacity ≡ min (length s) 65535) (free live i : ℕ) (r : CellRecord) (answer : Result (Unit {0}) StoreRefusal) (t : List ChainSlot) → live ≡ count_live (meant chain_cell s) → chained (capacity - live) (front s) free ≡ true → Written (meant chain_cell s) i r answer (meant chain_cell t) → MatchResult answer (λ _. t ≡ set s i (Live r)) (λ _. t ≡ s) → (capacity ≡ min (length t) 65535) × (live ≡ count_live (meant chain_cell t)) × (chained (capacity - live) (front t) free ≡ true)
+written s capacity sized free live i r (Ok u) t counted linked h put =
+    let held = live_at (meant chain_cell s) i h.live in
+    let long = front_length s capacity sized in (
+      kept_size s capacity i (Live r) sized ∙ ap (λ l. min (length l) 65535) (sym put),
+      counted ∙ sym (written_count h),
+      written_link (front s) capacity long free live i held.0 (Live r) (front t) linked held.1 (ap front put ∙ front_set s i (Live r)),
+    )
+written s capacity sized free live i r (Err e) t counted linked h put = (
+  sized ∙ ap (λ l. min (length l) 65535) (sym put),
+  counted ∙ ap count_live (sym h.same),
+  ap (λ l. chained (capacity - live) (front l) free) put ∙ linked,
+)

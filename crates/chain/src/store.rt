@@ -1,12 +1,13 @@
-ghost use Rattle.std.specs.Prelude.{◌≡◌, ℕ, ◌+◌, ◌-◌, ◌<◌, ◌≤◌, min, true, length, drop, replicate, None, slice_index_or};
-ghost use Rattle.cells.specs.Meaning.{Taken, Written, GivenBack, record_at, count_live};
+ghost use Rattle.std.specs.Prelude.{◌≡◌, ℕ, ◌+◌, ◌-◌, min, true, length, drop, replicate, None};
+ghost use Rattle.cells.specs.Meaning.{Taken, Written, GivenBack, count_live};
 ghost use Rattle.cells.specs.Lent.{front, meant, meant_small, Kept};
 ghost use Rattle.chain.specs.Chains.{chain_cell, chained};
 
 use crate::slots::ChainSlot;
+use cells::lent::{free_slots, read_slot, write_slot};
 use cells::records::CellRecord;
 use cells::refusals::StoreRefusal;
-use cells::store::{CellStore, MOST_CELLS};
+use cells::store::CellStore;
 
 // A store over lent slots whose free ones are linked: `free` is the first of them, or the capacity where there is none.
 // Slots past the first 65535 are not used.
@@ -21,29 +22,17 @@ pub struct ChainStore<'a> {
     ghost linked: { chained (capacity - live) (front slots.now) free ≡ true },
 }
 
-// Makes each of the first `count` slots free and links it to the next one.
-fn link_all(slots: &mut [ChainSlot], count: usize)
-    requires { (count ≤ length slots.old) × (count ≤ 65535) }
-    ensures linked { (k : ℕ) (d : ChainSlot) → k < count → slice_index_or slots.new k d ≡ ChainSlot.Free (k + 1) }
-    ensures past { drop 65535 slots.new ≡ drop 65535 slots.old }
-{
-    for i in 0..count {
-        slots[i] = ChainSlot::Free((i + 1) as u16);
-    }
-}
-
 impl<'a> ChainStore<'a> {
-    // A store of the first 65535 slots, or of all where there are fewer; none is live.
+    // A store of the first 65535 slots, or of all where there are fewer; none is live, and each is linked to the next one.
     pub fn new(slots: &'a mut [ChainSlot]) -> ChainStore<'a>
         ensures empty { meant chain_cell result.slots.now ≡ replicate (min (length slots.old) 65535) None }
         ensures past { drop 65535 result.slots.now ≡ drop 65535 slots.old }
         ensures lent { result.slots.ghost_name ≡ slots.entry.ghost_name }
     {
-        let count = slots.len().min(MOST_CELLS as usize);
-        link_all(slots, count);
+        let capacity = free_slots(slots);
         ChainStore {
             slots,
-            capacity: count as u16,
+            capacity,
             free: 0,
             live: 0,
         }
@@ -91,14 +80,7 @@ impl CellStore for ChainStore<'_> {
 
     #[inline(always)]
     fn read(&self, cell: u16) -> Result<CellRecord, StoreRefusal> {
-        if cell >= self.capacity {
-            return Err(StoreRefusal::DeadCell);
-        }
-        let slot = self.slots[cell as usize];
-        match slot {
-            ChainSlot::Live(contents) => Ok(contents),
-            ChainSlot::Free(_) => Err(StoreRefusal::DeadCell),
-        }
+        read_slot(self.slots, cell)
     }
 
     #[inline(always)]
@@ -106,17 +88,7 @@ impl CellStore for ChainStore<'_> {
         ensures means { Written (meant chain_cell self.old.slots.now) cell contents result (meant chain_cell self.new.slots.now) }
         ensures kept { Kept self.old.slots self.new.slots }
     {
-        if cell >= self.capacity {
-            return Err(StoreRefusal::DeadCell);
-        }
-        let slot = self.slots[cell as usize];
-        match slot {
-            ChainSlot::Live(_) => {
-                self.slots[cell as usize] = ChainSlot::Live(contents);
-                Ok(())
-            }
-            ChainSlot::Free(_) => Err(StoreRefusal::DeadCell),
-        }
+        write_slot(self.slots, cell, contents)
     }
 
     #[inline(always)]
@@ -124,19 +96,11 @@ impl CellStore for ChainStore<'_> {
         ensures means { GivenBack (meant chain_cell self.old.slots.now) cell result (meant chain_cell self.new.slots.now) }
         ensures kept { Kept self.old.slots self.new.slots }
     {
-        if cell >= self.capacity {
-            return Err(StoreRefusal::DeadCell);
-        }
-        let slot = self.slots[cell as usize];
-        match slot {
-            ChainSlot::Live(_) => {
-                self.slots[cell as usize] = ChainSlot::Free(self.free);
-                self.free = cell;
-                self.live -= 1;
-                Ok(())
-            }
-            ChainSlot::Free(_) => Err(StoreRefusal::DeadCell),
-        }
+        self.read(cell)?;
+        self.slots[cell as usize] = ChainSlot::Free(self.free);
+        self.free = cell;
+        self.live -= 1;
+        Ok(())
     }
 
     fn capacity(&self) -> u16 {

@@ -41,10 +41,10 @@ impl Source {
         ];
         let used = (a % 7) as usize;
         let constructor = (b % 256) as u16;
-        match CellRecord::new(constructor, &values[0..used]) {
-            Some(contents) => contents.with_spare(self.state),
-            None => CellRecord::bare(constructor),
-        }
+        let contents = CellRecord::new(constructor, &values[..used]).unwrap_or(CellRecord::bare(
+            constructor,
+        ));
+        contents.with_spare(self.state)
     }
 
     // Some call: half of those that change a cell give one back, so that the store stays about half full. The cell's

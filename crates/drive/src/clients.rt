@@ -28,14 +28,12 @@ pub fn take_two<S: CellStore>(
         (λ p. (p.0 ≢ p.1) × (at (S.CellStore.cells store.new) p.0 ≡ Some a) × (at (S.CellStore.cells store.new) p.1 ≡ Some b) × (count_live (S.CellStore.cells store.new) ≡ count_live (S.CellStore.cells store.old) + 2))
         (λ _. S.CellStore.cells store.new ≡ S.CellStore.cells store.old) }
 {
-    match store.take(a) {
-        Ok(first) => match store.take(b) {
-            Ok(second) => Ok((first, second)),
-            Err(refusal) => {
-                let _ = store.give_back(first);
-                Err(refusal)
-            }
-        },
-        Err(refusal) => Err(refusal),
+    let first = store.take(a)?;
+    match store.take(b) {
+        Ok(second) => Ok((first, second)),
+        Err(refusal) => {
+            let _ = store.give_back(first);
+            Err(refusal)
+        }
     }
 }

@@ -4,6 +4,12 @@ use crate::tally::Tally;
 use cells::refusals::StoreRefusal;
 use cells::store::CellStore;
 
+// Notes a refusal, and says whether it is the right one.
+fn refused(tally: &mut Tally, refusal: StoreRefusal, right: StoreRefusal) -> bool {
+    tally.refuse(refusal);
+    refusal == right
+}
+
 // Makes one call on the store and on the model, and says whether the answers agree.
 fn make<S: CellStore>(store: &mut S, model: &mut Model, call: Call, tally: &mut Tally) -> bool {
     match call {
@@ -14,16 +20,13 @@ fn make<S: CellStore>(store: &mut S, model: &mut Model, call: Call, tally: &mut 
                 fits
             }
             Err(refusal) => {
-                tally.refuse(refusal.number());
-                refusal == StoreRefusal::NoFreeCell && model.live() == model.capacity()
+                refused(tally, refusal, StoreRefusal::NoFreeCell)
+                    && model.live() == model.capacity()
             }
         },
         Call::Read(cell) => match store.read(cell) {
-            Ok(contents) => model.holds(cell, &contents),
-            Err(refusal) => {
-                tally.refuse(refusal.number());
-                refusal == StoreRefusal::DeadCell && !model.is_live(cell)
-            }
+            Ok(contents) => model.holds(cell, contents),
+            Err(refusal) => refused(tally, refusal, StoreRefusal::DeadCell) && !model.is_live(cell),
         },
         Call::Write(cell, contents) => match store.write(cell, contents) {
             Ok(_) => {
@@ -31,10 +34,7 @@ fn make<S: CellStore>(store: &mut S, model: &mut Model, call: Call, tally: &mut 
                 model.put(cell, contents);
                 fits
             }
-            Err(refusal) => {
-                tally.refuse(refusal.number());
-                refusal == StoreRefusal::DeadCell && !model.is_live(cell)
-            }
+            Err(refusal) => refused(tally, refusal, StoreRefusal::DeadCell) && !model.is_live(cell),
         },
         Call::GiveBack(cell) => match store.give_back(cell) {
             Ok(_) => {
@@ -42,10 +42,7 @@ fn make<S: CellStore>(store: &mut S, model: &mut Model, call: Call, tally: &mut 
                 model.clear(cell);
                 fits
             }
-            Err(refusal) => {
-                tally.refuse(refusal.number());
-                refusal == StoreRefusal::DeadCell && !model.is_live(cell)
-            }
+            Err(refusal) => refused(tally, refusal, StoreRefusal::DeadCell) && !model.is_live(cell),
         },
     }
 }
@@ -83,7 +80,7 @@ fn empty<S: CellStore>(store: &mut S, model: &mut Model, tally: &mut Tally) {
 // The same long list of calls for every store: filled up and refused, looked at, emptied; calls of every kind;
 // filled up again, looked at, emptied again.
 pub fn drive<S: CellStore>(store: &mut S, model: &mut Model) -> Tally {
-    let mut tally = Tally::new();
+    let mut tally = Tally::default();
     let mut source = Source::new();
     fill(store, model, &mut source, &mut tally);
     look(store, model, &mut tally);

@@ -1,25 +1,16 @@
 use cells::records::CellRecord;
 
-// A cell of the model.
-#[derive(Clone, Copy)]
-pub enum ModelCell {
-    Free,
-    Live(CellRecord),
-}
-
-// The plain list that a store is compared with: its cells by number, and how many are live.
+// The plain list that a store is compared with: its cells by number, each a record or none, and how many are live.
 #[derive(Drop)]
 pub struct Model<'m> {
-    cells: &'m mut [ModelCell],
+    cells: &'m mut [Option<CellRecord>],
     live: usize,
 }
 
 impl<'m> Model<'m> {
     // A model in which no cell is live.
-    pub fn new(cells: &'m mut [ModelCell]) -> Model<'m> {
-        for i in 0..cells.len() {
-            cells[i] = ModelCell::Free;
-        }
+    pub fn new(cells: &'m mut [Option<CellRecord>]) -> Model<'m> {
+        cells.fill(None);
         Model { cells, live: 0 }
     }
 
@@ -32,29 +23,17 @@ impl<'m> Model<'m> {
     }
 
     // What a cell holds; past the capacity nothing.
-    pub fn get(&self, cell: u16) -> ModelCell {
-        let cells = &self.cells[..];
-        let i = cell as usize;
-        if i < cells.len() {
-            cells[i]
-        } else {
-            ModelCell::Free
-        }
+    pub fn get(&self, cell: u16) -> Option<CellRecord> {
+        self.cells.get(cell as usize).copied().flatten()
     }
 
     pub fn is_live(&self, cell: u16) -> bool {
-        match self.get(cell) {
-            ModelCell::Live(_) => true,
-            ModelCell::Free => false,
-        }
+        self.get(cell).is_some()
     }
 
     // Whether a cell is live and holds just this record.
-    pub fn holds(&self, cell: u16, contents: &CellRecord) -> bool {
-        match self.get(cell) {
-            ModelCell::Live(other) => same(contents, &other),
-            ModelCell::Free => false,
-        }
+    pub fn holds(&self, cell: u16, contents: CellRecord) -> bool {
+        self.get(cell) == Some(contents)
     }
 
     // Makes a cell live with the contents.
@@ -62,9 +41,8 @@ impl<'m> Model<'m> {
         if !self.is_live(cell) {
             self.live = self.live.saturating_add(1);
         }
-        let i = cell as usize;
-        if i < self.cells.len() {
-            self.cells[i] = ModelCell::Live(contents);
+        if let Some(place) = self.cells.get_mut(cell as usize) {
+            *place = Some(contents);
         }
     }
 
@@ -73,20 +51,8 @@ impl<'m> Model<'m> {
         if self.is_live(cell) {
             self.live = self.live.saturating_sub(1);
         }
-        let i = cell as usize;
-        if i < self.cells.len() {
-            self.cells[i] = ModelCell::Free;
+        if let Some(place) = self.cells.get_mut(cell as usize) {
+            *place = None;
         }
     }
-}
-
-// Whether two records are the same in every part.
-fn same(a: &CellRecord, b: &CellRecord) -> bool {
-    let mut equal = a.constructor == b.constructor && a.used == b.used && a.spare == b.spare;
-    for i in 0..6 {
-        if a.field(i) != b.field(i) {
-            equal = false;
-        }
-    }
-    equal
 }

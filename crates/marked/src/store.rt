@@ -1,18 +1,18 @@
-ghost use Rattle.std.specs.Prelude.{◌≡◌, ℕ, ◌<◌, ◌≤◌, min, true, length, drop, replicate, None, MatchOption, slice_index_or};
+ghost use Rattle.std.specs.Prelude.{◌≡◌, ℕ, ◌<◌, ◌≤◌, min, true, length, drop, replicate, None, MatchOption};
 ghost use Rattle.cells.specs.Meaning.{Taken, Written, GivenBack, count_live};
-ghost use Rattle.cells.specs.Lent.{meant, meant_small, Kept};
+ghost use Rattle.cells.specs.Lent.{front, meant, meant_small, Kept};
 ghost use Rattle.marked.specs.Marks.{marked_cell, NoneFree, FreeAt};
 
-use crate::slots::MarkedSlot;
+use cells::lent::{free_slots, read_slot, write_slot};
 use cells::records::CellRecord;
 use cells::refusals::StoreRefusal;
-use cells::store::{CellStore, MOST_CELLS};
+use cells::store::CellStore;
 
-// A store over lent slots, each with a mark; a free one is searched for, from where the last search ended.
-// Slots past the first 65535 are not used.
+// A store over lent slots, each of which has a record or none; a free one is searched for, from where the last search
+// ended. Slots past the first 65535 are not used.
 #[derive(Drop)]
 pub struct MarkedStore<'a> {
-    slots: &'a mut [MarkedSlot],
+    slots: &'a mut [Option<CellRecord>],
     capacity: u16,
     live: u16,
     next: u16,
@@ -21,51 +21,43 @@ pub struct MarkedStore<'a> {
     ghost inside: { next ≤ capacity },
 }
 
-// Marks each of the first `count` slots as free.
-fn free_all(slots: &mut [MarkedSlot], count: usize)
-    requires { (count ≤ length slots.old) × (count ≤ 65535) }
-    ensures freed { (k : ℕ) (d : MarkedSlot) → k < count → marked_cell (slice_index_or slots.new k d) ≡ None }
-    ensures past { drop 65535 slots.new ≡ drop 65535 slots.old }
+// Where the first free slot stands, if there is one.
+fn first_free(slots: &[Option<CellRecord>]) -> Option<usize>
+    ensures { MatchOption result (NoneFree slots.now 0 (length slots.now)) (λ i. FreeAt slots.now (length slots.now) i) }
 {
-    for i in 0..count {
-        slots[i] = MarkedSlot::Free;
-    }
+    slots.iter().position(|slot| slot.is_none())
 }
 
-// The first free slot from `from` on, below `to`.
-fn first_free(slots: &[MarkedSlot], from: u16, to: u16) -> Option<u16>
-    requires { to ≤ length slots.now }
-    ensures { MatchOption result (NoneFree slots.now from to) (λ i. FreeAt slots.now to i) }
+// Where a free slot stands, if there is one: the first from `next` on, or else the first of all.
+fn search(slots: &[Option<CellRecord>], next: usize) -> Option<usize>
+    requires { next ≤ length slots.now }
+    ensures { MatchOption result (NoneFree slots.now 0 (length slots.now)) (λ i. FreeAt slots.now (length slots.now) i) }
 {
-    for i in from..to {
-        let slot = slots[i as usize];
-        match slot {
-            MarkedSlot::Free => return Some(i),
-            MarkedSlot::Live(_) => {}
-        }
+    let (before, after) = slots.split_at(next);
+    match first_free(after) {
+        Some(found) => Some(next + found),
+        None => first_free(before),
     }
-    None
 }
 
 impl<'a> MarkedStore<'a> {
     // A store of the first 65535 slots, or of all where there are fewer; none is live.
-    pub fn new(slots: &'a mut [MarkedSlot]) -> MarkedStore<'a>
+    pub fn new(slots: &'a mut [Option<CellRecord>]) -> MarkedStore<'a>
         ensures empty { meant marked_cell result.slots.now ≡ replicate (min (length slots.old) 65535) None }
         ensures past { drop 65535 result.slots.now ≡ drop 65535 slots.old }
         ensures lent { result.slots.ghost_name ≡ slots.entry.ghost_name }
     {
-        let count = slots.len().min(MOST_CELLS as usize);
-        free_all(slots, count);
+        let capacity = free_slots(slots);
         MarkedStore {
             slots,
-            capacity: count as u16,
+            capacity,
             live: 0,
             next: 0,
         }
     }
 
     // The slots that the store was made over, as it leaves them.
-    pub fn into_slots(self) -> &'a mut [MarkedSlot]
+    pub fn into_slots(self) -> &'a mut [Option<CellRecord>]
         ensures { (result.ghost_name ≡ self.entry.slots.ghost_name) × (result.now ≡ self.entry.slots.now) }
     {
         let MarkedStore {
@@ -77,15 +69,11 @@ impl<'a> MarkedStore<'a> {
         slots
     }
 
-    // A free slot in use, if there is one: searched for from where the last search ended, and then from the start.
-    fn search(&self) -> Option<u16>
-        ensures { MatchOption result (NoneFree self.now.slots.now 0 self.now.capacity) (λ i. FreeAt self.now.slots.now self.now.capacity i) }
+    // Where a free slot in use stands, if there is one: searched for from where the last search ended.
+    fn search(&self) -> Option<usize>
+        ensures { MatchOption result (NoneFree (front self.now.slots.now) 0 (length (front self.now.slots.now))) (λ i. FreeAt (front self.now.slots.now) (length (front self.now.slots.now)) i) }
     {
-        let slots = &self.slots[..];
-        match first_free(slots, self.next, self.capacity) {
-            Some(cell) => Some(cell),
-            None => first_free(slots, 0, self.next),
-        }
+        search(&self.slots[..self.capacity as usize], self.next as usize)
     }
 }
 
@@ -104,7 +92,8 @@ impl CellStore for MarkedStore<'_> {
         }
         match self.search() {
             Some(found) => {
-                self.slots[found as usize] = MarkedSlot::Live(contents);
+                let found = found as u16;
+                self.slots[found as usize] = Some(contents);
                 self.live += 1;
                 self.next = found + 1;
                 Ok(found)
@@ -115,14 +104,7 @@ impl CellStore for MarkedStore<'_> {
 
     #[inline(always)]
     fn read(&self, cell: u16) -> Result<CellRecord, StoreRefusal> {
-        if cell >= self.capacity {
-            return Err(StoreRefusal::DeadCell);
-        }
-        let slot = self.slots[cell as usize];
-        match slot {
-            MarkedSlot::Live(contents) => Ok(contents),
-            MarkedSlot::Free => Err(StoreRefusal::DeadCell),
-        }
+        read_slot(self.slots, cell)
     }
 
     #[inline(always)]
@@ -130,17 +112,7 @@ impl CellStore for MarkedStore<'_> {
         ensures means { Written (meant marked_cell self.old.slots.now) cell contents result (meant marked_cell self.new.slots.now) }
         ensures kept { Kept self.old.slots self.new.slots }
     {
-        if cell >= self.capacity {
-            return Err(StoreRefusal::DeadCell);
-        }
-        let slot = self.slots[cell as usize];
-        match slot {
-            MarkedSlot::Live(_) => {
-                self.slots[cell as usize] = MarkedSlot::Live(contents);
-                Ok(())
-            }
-            MarkedSlot::Free => Err(StoreRefusal::DeadCell),
-        }
+        write_slot(self.slots, cell, contents)
     }
 
     #[inline(always)]
@@ -148,18 +120,10 @@ impl CellStore for MarkedStore<'_> {
         ensures means { GivenBack (meant marked_cell self.old.slots.now) cell result (meant marked_cell self.new.slots.now) }
         ensures kept { Kept self.old.slots self.new.slots }
     {
-        if cell >= self.capacity {
-            return Err(StoreRefusal::DeadCell);
-        }
-        let slot = self.slots[cell as usize];
-        match slot {
-            MarkedSlot::Live(_) => {
-                self.slots[cell as usize] = MarkedSlot::Free;
-                self.live -= 1;
-                Ok(())
-            }
-            MarkedSlot::Free => Err(StoreRefusal::DeadCell),
-        }
+        self.read(cell)?;
+        self.slots[cell as usize] = None;
+        self.live -= 1;
+        Ok(())
     }
 
     fn capacity(&self) -> u16 {

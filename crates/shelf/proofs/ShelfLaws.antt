@@ -1,5 +1,6 @@
 -- Laws of the shelf: what the cells less those on the shelf are, and how a cell goes onto it and comes off.
 use Rattle.std.proofs.Common.{◌≡◌, ℕ, zero, suc, ◌+◌, ◌-◌, ◌<◌, ◌≤◌, Bool, true, false, not, ◌||◌, eqb, ◌≢◌, ◌⊎◌, List, [], ◌∷◌, ◌++◌, length, get_or, take, drop, set, replicate, is_some, is_ok, Some, None, Ok, Err, Option, Result, sym, refl, ap, ◌∙◌, subst, inl, inr, ⊎_elim, arith}
+use Rattle.std.specs.List.{list_any}
 use Rattle.std.proofs.lemmas.List.{length-set, get_or-set_same, set-set, set_comm, set-get_or, set_past, drop-set, drop-set-lt, drop_more, take_more}
 use Rattle.std.proofs.lemmas.Bool.{and_parts, and_from, or_parts, or_from, or_left, or_right, not-true, not_from_false, eqb-true, eqb-false, eq-eqb, ne_eqb, true≢false, false≢true, cases_eq}
 use Rattle.cells.specs.declared.refusals.StoreRefusal.{StoreRefusal}
@@ -7,7 +8,7 @@ use Rattle.cells.specs.declared.refusals.StoreRefusal.TheVariants.{DeadCell}
 use Rattle.cells.specs.declared.records.CellRecord.{CellRecord}
 use Rattle.cells.specs.Meaning.{Cells, at, is_live, count_live, TakenAt, Changed, Dead, Written, GivenBack}
 use Rattle.cells.proofs.CellLaws.{count_set, live_one, live_within}
-use Rattle.cells.proofs.Calls.{at_other, at_cleared}
+use Rattle.cells.proofs.Calls.{at_other, at_cleared, live_free_apart}
 use Rattle.shelf.specs.Shelves.{less, among, apart, less_length}
 
 -- clearing
@@ -57,6 +58,11 @@ less_set [] cs i c h = refl
 less_set (k ∷ ks) cs i c h =
     let p = or_parts (eqb k i) (among ks i) h in
     ap (λ l. set l k None) (less_set ks cs i c p.1) ∙ set_comm (less ks cs) i k c None (λ e. eqb-false k i p.0 (sym e))
+
+-- `among` as the library's search of a list
+pub among_any : (ks : List ℕ) (i : ℕ) → among ks i ≡ list_any (λ k. eqb k i) ks
+among_any [] i = refl
+among_any (k ∷ ks) i = ap (λ b. eqb k i || b) (among_any ks i)
 
 -- a number written into a place
 
@@ -310,3 +316,25 @@ pub put_back : {U : Type 0} (ks : List ℕ) (n : ℕ) (old new : Cells) (answer 
 put_back ks n old new (Ok u) small within h =
     ap (less (set ks n 65535)) h.after ∙ less_clear (set ks n 65535) old (get_or ks n 0) ∙ sym (less_off ks n old small within)
 put_back ks n old new (Err e) small within h = ap (less (set ks n 65535)) h.same ∙ passed ks n old small within h.dead
+
+-- the last number popped off the shelf
+
+pub popped_back : {U : Type 0} (ks js : List ℕ) (n i : ℕ) (old new : Cells) (answer : Result U StoreRefusal) → length old ≤ 65535 → n < length ks → i ≡ get_or ks n 0 → js ≡ set ks n 65535 → GivenBack old i answer new → less js new ≡ less ks old
+popped_back ks js n i old new answer small within top put h =
+    ap (λ l. less l new) put ∙ put_back ks n old new answer small within (subst (λ k. GivenBack old k answer new) top h)
+
+pub popped_hit : {U : Type 0} (ks js : List ℕ) (n i : ℕ) (old new : Cells) (r : CellRecord) (answer : Result U StoreRefusal) → length old ≤ 65535 → n < length ks → apart ks ≡ true → i ≡ get_or ks n 0 → js ≡ set ks n 65535 → is_ok answer ≡ true → Written old i r answer new → TakenAt (less ks old) r i (less js new) × (is_live old i ≡ true)
+popped_hit ks js n i old new r answer small within once top put ok h =
+    let hit = reuse_hit ks n old new r answer small within once ok (subst (λ k. Written old k r answer new) top h) in (
+      subst (λ k. TakenAt (less ks old) r k (less js new)) (sym top) (subst (λ l. TakenAt (less ks old) r (get_or ks n 0) (less l new)) (sym put) hit.0),
+      subst (λ k. is_live old k ≡ true) (sym top) hit.1,
+    )
+
+pub popped_miss : {U : Type 0} (ks js : List ℕ) (n i : ℕ) (old new : Cells) (r : CellRecord) (answer : Result U StoreRefusal) → length old ≤ 65535 → n < length ks → i ≡ get_or ks n 0 → js ≡ set ks n 65535 → is_ok answer ≡ false → Written old i r answer new → (new ≡ old) × (less js new ≡ less ks old) × ((k : ℕ) → is_live old k ≡ true → among js k ≡ among ks k)
+popped_miss ks js n i old new r answer small within top put miss h =
+    let m = reuse_miss i old new r answer miss h in
+    let dead : at old (get_or ks n 0) ≡ None = ap (at old) (sym top) ∙ m.1 in (
+      m.0,
+      ap (λ l. less l new) put ∙ ap (less (set ks n 65535)) m.0 ∙ passed ks n old small within dead,
+      λ k live. ap (λ l. among l k) put ∙ among_same ks n 65535 k (live_number old k small live) (live_free_apart old k (get_or ks n 0) live dead),
+    )

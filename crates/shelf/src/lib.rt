@@ -1,6 +1,6 @@
 #![tactic(auto)]
 
-ghost use Rattle.std.specs.Prelude.{◌≡◌, ℕ, ◌+◌, ◌-◌, ◌<◌, ◌≤◌, true, false, length, drop, replicate, is_ok, None, MatchOption};
+ghost use Rattle.std.specs.Prelude.{◌≡◌, ℕ, ◌+◌, ◌-◌, ◌<◌, ◌≤◌, true, false, length, drop, replicate, is_ok, None, MatchOption, slice_index, slice_set};
 ghost use Rattle.cells.specs.Meaning.{at, is_live, TakenAt, Taken, Written, GivenBack};
 ghost use Rattle.shelf.specs.Shelves.{less, among, apart, FromShelf, less_small};
 
@@ -16,7 +16,7 @@ pub const PLACES: usize = 16;
 #[derive(Drop)]
 pub struct Shelf<'b, S> {
     below: &'b mut S,
-    kept: [u16; 16],
+    kept: [u16; PLACES],
     count: usize,
     ghost sixteen: { length kept ≡ 16 },
     ghost few: { count ≤ 16 },
@@ -33,7 +33,7 @@ impl<'b, S: CellStore> Shelf<'b, S> {
     {
         Shelf {
             below,
-            kept: [MOST_CELLS; 16],
+            kept: [MOST_CELLS; PLACES],
             count: 0,
         }
     }
@@ -45,11 +45,7 @@ impl<'b, S: CellStore> Shelf<'b, S> {
         ensures empty { self.new.count ≡ 0 }
         ensures lent { self.new.below.ghost_name ≡ self.old.below.ghost_name }
     {
-        while self.count != 0 {
-            let last = self.count - 1;
-            let cell = self.kept[last];
-            self.kept[last] = MOST_CELLS;
-            self.count = last;
+        while let Some(cell) = self.pop() {
             let _ = self.below.give_back(cell);
         }
     }
@@ -76,13 +72,23 @@ impl<'b, S: CellStore> Shelf<'b, S> {
         if self.count == 0 {
             return cell == MOST_CELLS;
         }
-        let mut found = false;
-        for i in 0..PLACES {
-            if self.kept[i] == cell {
-                found = true;
-            }
+        self.kept.contains(&cell)
+    }
+
+    // Takes the last cell off the shelf, if there is one.
+    #[inline(always)]
+    fn pop(&mut self) -> Option<u16>
+        ensures { MatchOption result
+            ((self.old.count ≡ 0) × (self.new ≡ self.old))
+            (λ cell. (self.new.count + 1 ≡ self.old.count) × (cell ≡ slice_index self.old.kept self.new.count) × (self.new.kept ≡ slice_set self.old.kept self.new.count 65535) × (self.new.below ≡ self.old.below)) }
+    {
+        if self.count > 0 {
+            self.count -= 1;
+            let cell = self.kept[self.count];
+            self.kept[self.count] = MOST_CELLS;
+            return Some(cell);
         }
-        found
+        None
     }
 
     // Takes cells off the shelf, the last given back first, until one is live below, and writes the contents there.
@@ -93,10 +99,7 @@ impl<'b, S: CellStore> Shelf<'b, S> {
             (λ i. TakenAt (less self.old.kept (S.CellStore.cells self.old.below.now)) contents i (less self.new.kept (S.CellStore.cells self.new.below.now)) × (among self.old.kept i ≡ true)) }
         ensures lent { self.new.below.ghost_name ≡ self.old.below.ghost_name }
     {
-        while self.count > 0 {
-            self.count -= 1;
-            let top = self.kept[self.count];
-            self.kept[self.count] = MOST_CELLS;
+        while let Some(top) = self.pop() {
             if self.below.write(top, contents).is_ok() {
                 return Some(top);
             }
@@ -157,14 +160,10 @@ impl<S: CellStore> CellStore for Shelf<'_, S> {
         if self.count >= PLACES {
             return self.below.give_back(cell);
         }
-        match self.below.read(cell) {
-            Ok(_) => {
-                self.kept[self.count] = cell;
-                self.count += 1;
-                Ok(())
-            }
-            Err(refusal) => Err(refusal),
-        }
+        self.below.read(cell)?;
+        self.kept[self.count] = cell;
+        self.count += 1;
+        Ok(())
     }
 
     fn capacity(&self) -> u16 {
@@ -174,8 +173,8 @@ impl<S: CellStore> CellStore for Shelf<'_, S> {
     // The live cells below, less those on the shelf, each of which is looked up there.
     fn live_count(&self) -> u16 {
         let mut live = self.below.live_count();
-        for i in 0..PLACES {
-            if self.below.read(self.kept[i]).is_ok() {
+        for cell in self.kept {
+            if self.below.read(cell).is_ok() {
                 live -= 1;
             }
         }

@@ -1,39 +1,30 @@
-use Rattle.std.proofs.Common.{◌≡◌, ◌+◌, ◌-◌, ◌<◌, length, sym, ap, ◌∙◌, arith, rules}
-use Rattle.std.proofs.lemmas.List.{length-set}
+use Rattle.std.proofs.Common.{◌<◌, length, sym, ap, ◌∙◌, subst, arith}
+use Rattle.cells.specs.Meaning.{GivenBack}
 use Rattle.shelf.specs.Shelves.{less}
-use Rattle.shelf.proofs.ShelfLaws.{bare_off, apart_off, emptied, less_none, put_back}
+use Rattle.shelf.proofs.ShelfLaws.{emptied, less_none, popped_back}
 use Rattle.shelf.proofs.Shelf.clear.Goals as goal
 
-pub invariant_of-self : goal.invariant_of-self
-invariant_of-self g c =
-    let s = c.loop-self.self in
-    let n = s.count - 1 in
-    let one_less : s.count - 1 + 1 ≡ s.count = omega (arith, c.loop-self-test.true) in
-    record {
-      sixteen = length-set s.kept n 65535 ∙ s.sixteen;
-      few = omega (arith, s.few);
-      bare = bare_off s.kept s.count n one_less s.few s.sixteen s.bare;
-      once = apart_off s.kept n s.once;
-    }
-
-pub loop-self-preserved : goal.loop-self-preserved
-loop-self-preserved g c =
-    let s = c.loop-self.self in
+pub loop-cell-preserved : goal.loop-cell-preserved
+loop-cell-preserved g c =
+    let s = c.loop-cell.self in
+    let t = c.pop.new.self in
     let cells = g.S.CellStore.cells in
-    let within : c.loop-self.self.count - 1 < length c.loop-self.self.kept = omega (arith, s.few, s.sixteen, c.loop-self-test.true) in (
-      put_back s.kept (s.count - 1) (cells s.below.now) (cells c.give_back.new.self) c.give_back.result (g.S.CellStore.small s.below.now) within (search rules)
-          ∙ c.loop-self.invariant.0,
-      c.loop-self.invariant.1,
+    let after = cells c.give_back.new.self in
+    let p = c.in-Some.ensures in
+    let within : c.pop.new.self.count < length c.loop-cell.self.kept = omega (arith, s.few, s.sixteen, p.0) in
+    let given = subst (λ below. GivenBack (cells below.now) c.in-Some.cell c.give_back.result after) p.3 c.give_back.ensures in (
+      popped_back s.kept t.kept t.count c.in-Some.cell (cells s.below.now) after c.give_back.result (g.S.CellStore.small s.below.now) within p.1 p.2 given
+          ∙ c.loop-cell.invariant.0,
+      ap (λ below. below.ghost_name) p.3 ∙ c.loop-cell.invariant.1,
     )
 
-pub returns : goal.returns
-returns g c =
-    let s = c.loop-self.self in
-    let below = g.S.CellStore.cells s.below.now in
-    let none = emptied s.kept s.count (omega (arith, c.loop-self-test.false)) s.bare in
-    record {
-      means = sym (ap (λ ks. less ks below) none ∙ less_none 16 below (g.S.CellStore.small s.below.now)) ∙ c.loop-self.invariant.0;
-      same = c.loop-self.invariant.0;
-      empty = omega (arith, c.loop-self-test.false);
-      lent = c.loop-self.invariant.1;
-    }
+pub returns-clause-means : goal.returns-clause-means
+returns-clause-means g c =
+    let s = c.loop-cell.self in
+    let cells = g.S.CellStore.cells in
+    let below = cells s.below.now in
+    let end = c.in_default.ensures in
+    let none = emptied s.kept s.count (omega (arith, end.0)) s.bare in
+    ap (λ shelf. cells shelf.below.now) end.1
+    ∙ sym (ap (λ ks. less ks below) none ∙ less_none 16 below (g.S.CellStore.small s.below.now))
+    ∙ c.loop-cell.invariant.0

@@ -1,70 +1,55 @@
-use Rattle.std.proofs.Common.{◌≡◌, ◌+◌, ◌-◌, ◌<◌, length, get_or, set, sym, ap, ◌∙◌, subst, arith, rules}
-use Rattle.std.proofs.lemmas.List.{length-set}
+use Rattle.std.proofs.Common.{◌<◌, length, sym, ap, ◌∙◌, subst, arith}
 use Rattle.std.proofs.lemmas.Bool.{true≢false}
-use Rattle.cells.specs.Meaning.{at, is_live, TakenAt}
-use Rattle.cells.proofs.Calls.{live_free_apart}
+use Rattle.cells.specs.Meaning.{at, is_live, TakenAt, Written}
 use Rattle.shelf.specs.Shelves.{less, among}
-use Rattle.shelf.proofs.ShelfLaws.{bare_off, apart_off, among_at, among_same, among_none, less_none, emptied, not_live, live_number, passed, reuse_hit, reuse_miss}
+use Rattle.shelf.proofs.ShelfLaws.{among_at, among_none, less_none, emptied, not_live, live_number, popped_hit, popped_miss}
 use Rattle.shelf.proofs.Shelf.reuse.Goals as goal
 
-pub invariant_of-self : goal.invariant_of-self
-invariant_of-self g c =
-    let s = c.loop-self.self in
-    let n = s.count - 1 in
-    let one_less : s.count - 1 + 1 ≡ s.count = omega (arith, c.loop-self-test.true) in
-    let bare = bare_off s.kept s.count n one_less s.few s.sixteen s.bare in
-    let once = apart_off s.kept n s.once in
-    record {
-      sixteen = length-set s.kept n _ ∙ s.sixteen;
-      few = omega (arith, s.few);
-      bare = search rules;
-      once = search rules;
-    }
-
-pub returns-then-is_ok : goal.returns-then-is_ok
-returns-then-is_ok g c =
-    let s = c.loop-self.self in
-    let n = s.count - 1 in
+pub returns-then-is_ok-clause-found : goal.returns-then-is_ok-clause-found
+returns-then-is_ok-clause-found g c =
+    let s = c.loop-top.self in
+    let t = c.pop.new.self in
+    let top = c.in-Some.top in
     let cells = g.S.CellStore.cells in
-    let within : c.loop-self.self.count - 1 < length c.loop-self.self.kept = omega (arith, s.few, s.sixteen, c.loop-self-test.true) in
-    let hit = reuse_hit s.kept n (cells s.below.now) (cells c.write.new.self) c.args.contents c.write.result (g.S.CellStore.small s.below.now) within s.once (sym c.if-is_ok.ensures.value) c.write.ensures in
-    record {
-      found = (
-        subst (λ cs. TakenAt cs c.args.contents (get_or s.kept n 0) (less (set s.kept n 65535) (cells c.write.new.self))) c.loop-self.invariant.1 hit.0,
-        sym (c.loop-self.invariant.2 (get_or s.kept n 0) (ap (λ cs. is_live cs (get_or s.kept n 0)) (sym c.loop-self.invariant.0) ∙ hit.1)) ∙ among_at s.kept n 0 within,
-      );
-      lent = c.loop-self.invariant.3;
-    }
-
-pub loop-self-preserved : goal.loop-self-preserved
-loop-self-preserved g c =
-    let s = c.loop-self.self in
-    let n = s.count - 1 in
-    let top = get_or s.kept n 0 in
-    let cells = g.S.CellStore.cells in
-    let entry = cells c.args.self.now.below.now in
-    let within : c.loop-self.self.count - 1 < length c.loop-self.self.kept = omega (arith, s.few, s.sixteen, c.loop-self-test.true) in
-    let miss = reuse_miss top (cells s.below.now) (cells c.write.new.self) c.args.contents c.write.result (sym c.if-is_ok.ensures.value) c.write.ensures in (
-      miss.0 ∙ c.loop-self.invariant.0,
-      ap (less (set s.kept n 65535)) miss.0 ∙ passed s.kept n (cells s.below.now) (g.S.CellStore.small s.below.now) within miss.1 ∙ c.loop-self.invariant.1,
-      λ k live.
-          among_same s.kept n 65535 k (live_number entry k (g.S.CellStore.small c.args.self.now.below.now) live) (live_free_apart entry k top live (ap (λ cs. at cs top) (sym c.loop-self.invariant.0) ∙ miss.1))
-          ∙ c.loop-self.invariant.2 k live,
-      c.loop-self.invariant.3,
+    let after = cells c.write.new.self in
+    let p = c.in-Some.ensures in
+    let held = c.loop-top.invariant in
+    let within : c.pop.new.self.count < length c.loop-top.self.kept = omega (arith, s.few, s.sixteen, p.0) in
+    let written = subst (λ below. Written (cells below.now) top c.args.contents c.write.result after) p.3 c.write.ensures in
+    let hit = popped_hit s.kept t.kept t.count top (cells s.below.now) after c.args.contents c.write.result (g.S.CellStore.small s.below.now) within s.once p.1 p.2 (sym c.if-is_ok.ensures.value) written in (
+      subst (λ cs. TakenAt cs c.args.contents top (less t.kept after)) held.1 hit.0,
+      sym (held.2 top (ap (λ cs. is_live cs top) (sym held.0) ∙ hit.1)) ∙ ap (among s.kept) p.1 ∙ among_at s.kept t.count 0 within,
     )
 
-pub returns : goal.returns
-returns g c =
-    let s = c.loop-self.self in
+pub loop-top-preserved : goal.loop-top-preserved
+loop-top-preserved g c =
+    let s = c.loop-top.self in
+    let t = c.pop.new.self in
+    let cells = g.S.CellStore.cells in
+    let after = cells c.write.new.self in
+    let p = c.in-Some.ensures in
+    let held = c.loop-top.invariant in
+    let within : c.pop.new.self.count < length c.loop-top.self.kept = omega (arith, s.few, s.sixteen, p.0) in
+    let written = subst (λ below. Written (cells below.now) c.in-Some.top c.args.contents c.write.result after) p.3 c.write.ensures in
+    let miss = popped_miss s.kept t.kept t.count c.in-Some.top (cells s.below.now) after c.args.contents c.write.result (g.S.CellStore.small s.below.now) within p.1 p.2 (sym c.if-is_ok.ensures.value) written in (
+      miss.0 ∙ held.0,
+      miss.1 ∙ held.1,
+      λ k live. miss.2 k (ap (λ cs. is_live cs k) held.0 ∙ live) ∙ held.2 k live,
+      ap (λ below. below.ghost_name) p.3 ∙ held.3,
+    )
+
+pub returns-clause-found : goal.returns-clause-found
+returns-clause-found g c =
+    let s = c.loop-top.self in
     let cells = g.S.CellStore.cells in
     let entry = cells c.args.self.now.below.now in
     let small = g.S.CellStore.small c.args.self.now.below.now in
-    let none = emptied s.kept s.count (omega (arith, c.loop-self-test.false)) s.bare in
-    record {
-      found = (
-        sym (ap (λ ks. less ks (cells s.below.now)) none ∙ less_none 16 (cells s.below.now) (g.S.CellStore.small s.below.now)) ∙ c.loop-self.invariant.1,
-        none,
-        λ k on. not_live (at entry k) (λ live. true≢false (sym on ∙ sym (c.loop-self.invariant.2 k live) ∙ ap (λ ks. among ks k) none ∙ among_none 16 k (live_number entry k small live))),
-      );
-      lent = c.loop-self.invariant.3;
-    }
+    let held = c.loop-top.invariant in
+    let end = c.in_default.ensures in
+    let none = emptied s.kept s.count (omega (arith, end.0)) s.bare in (
+      ap (λ shelf. cells shelf.below.now) end.1
+          ∙ sym (ap (λ ks. less ks (cells s.below.now)) none ∙ less_none 16 (cells s.below.now) (g.S.CellStore.small s.below.now))
+          ∙ held.1,
+      ap (λ shelf. shelf.kept) end.1 ∙ none,
+      λ k on. not_live (at entry k) (λ live. true≢false (sym on ∙ sym (held.2 k live) ∙ ap (λ ks. among ks k) none ∙ among_none 16 k (live_number entry k small live))),
+    )

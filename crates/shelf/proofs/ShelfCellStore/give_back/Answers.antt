@@ -1,8 +1,9 @@
-use Rattle.std.proofs.Common.{◌≡◌, suc, ◌+◌, ◌-◌, ◌<◌, length, set, replicate, is_some, sym, refl, ap, ◌∙◌, arith, rules}
+use Rattle.std.proofs.Common.{◌≡◌, suc, ◌+◌, ◌-◌, ◌<◌, length, set, replicate, is_some, Err, sym, refl, ap, ◌∙◌, subst, arith, rules}
 use Rattle.std.proofs.lemmas.List.{length-set, get_or-set_same}
 use Rattle.std.proofs.lemmas.Bool.{false≢true}
 use Rattle.cells.proofs.Calls.{read_some, read_none}
-use Rattle.shelf.specs.Shelves.{among}
+use Rattle.cells.specs.Meaning.{GivenBack}
+use Rattle.shelf.specs.Shelves.{less, among}
 use Rattle.shelf.proofs.ShelfLaws.{at_beside, among_at, apart_on, bare_at, bare_on, dead_among, dead_beside, given_beside, less_on}
 use Rattle.shelf.proofs.ShelfCellStore.give_back.Goals as goal
 
@@ -27,8 +28,8 @@ returns-then-self-ge-PLACES g c =
       lent = refl;
     }
 
-pub invariant_of-self-in-Ok : goal.invariant_of-self-in-Ok
-invariant_of-self-in-Ok g c =
+pub invariant_of-self-2 : goal.invariant_of-self-2
+invariant_of-self-2 g c =
     let s = c.args.self.now in
     let bare = bare_on s.kept s.count c.args.cell c.if-self-ge-PLACES.false s.sixteen s.bare in
     record {
@@ -38,8 +39,8 @@ invariant_of-self-in-Ok g c =
       once = apart_on s.kept s.count c.args.cell (sym c.if-has.ensures) s.once;
     }
 
-pub returns-in-Ok : goal.returns-in-Ok
-returns-in-Ok g c =
+pub returns : goal.returns
+returns g c =
     let s = c.args.self.now in
     let cs = g.S.CellStore.cells s.below.now in
     let within : c.args.self.now.count < length c.args.self.now.kept = omega (arith, s.sixteen, c.if-self-ge-PLACES.false) in
@@ -47,7 +48,7 @@ returns-in-Ok g c =
     let none = bare_at s.kept s.count (16 - (s.count + 1)) within (s.bare ∙ ap (λ k. replicate k 65535) left) in
     record {
       means = record {
-        live = ap is_some (at_beside s.kept cs c.args.cell (sym c.if-has.ensures) ∙ read_some cs c.args.cell _ (sym c.read.ensures ∙ c.in-Ok.is));
+        live = ap is_some (at_beside s.kept cs c.args.cell (sym c.if-has.ensures) ∙ read_some cs c.args.cell _ (sym c.in_ok-read.ensures));
         after = less_on s.kept s.count c.args.cell cs (g.S.CellStore.small s.below.now) within none;
       };
       keeps = λ few. (
@@ -60,13 +61,10 @@ returns-in-Ok g c =
       lent = refl;
     }
 
-pub returns-in-Err : goal.returns-in-Err
-returns-in-Err g c =
+pub returns-in_err-read-clause-means : goal.returns-in_err-read-clause-means
+returns-in_err-read-clause-means g c =
     let s = c.args.self.now in
     let cs = g.S.CellStore.cells s.below.now in
-    record {
-      means = dead_beside s.kept cs cs c.args.cell c.in-Err.refusal (read_none cs c.args.cell c.in-Err.refusal (sym c.read.ensures ∙ c.in-Err.is));
-      keeps = λ few. (λ ok. absurd (false≢true ok), refl);
-      full = λ e. refl;
-      lent = refl;
-    }
+    let e = c.in_err-read.field-0.0 in
+    let is : c.from_residual.result ≡ Err e = search rules in
+    subst (λ r. GivenBack (less s.kept cs) c.args.cell r (less s.kept cs)) (sym is) (dead_beside s.kept cs cs c.args.cell e (read_none cs c.args.cell e (sym c.in_err-read.ensures)))

@@ -1,45 +1,47 @@
-use Rattle.std.proofs.Common.{is_some, None, refl, ap, arith}
-use Rattle.marked.specs.declared.slots.MarkedSlot.TheVariants.{Free}
+use Rattle.std.proofs.Common.{◌≡◌, set, is_some, None, Err, sym, refl, ap, subst, arith, rules}
+use Rattle.cells.specs.Lent.{front, meant}
+use Rattle.cells.specs.Meaning.{GivenBack}
+use Rattle.cells.proofs.CellLaws.{live_some}
+use Rattle.cells.proofs.Calls.{given_count, read_some, read_none}
+use Rattle.cells.proofs.LentLaws.{front_set, kept_size, live_in_use, live_past, changed_slot}
 use Rattle.marked.specs.Marks.{marked_cell}
-use Rattle.cells.proofs.LentLaws.{kept_size, kept_past, dead_past, dead_slot, changed_slot, count_slot, count_less}
 use Rattle.marked.proofs.store.MarkedStoreCellStore.give_back.Goals as goal
 
-pub returns-then-cell-self : goal.returns-then-cell-self
-returns-then-cell-self c =
-    let s = c.args.self.now in
-    record {
-      means = dead_past marked_cell s.slots.now s.capacity s.sized c.args.cell c.if-cell-self.true;
-      kept = record { same = refl; past = refl };
-    }
+pub returns-in_err-read-clause-means : goal.returns-in_err-read-clause-means
+returns-in_err-read-clause-means c =
+    let cs = meant marked_cell c.args.self.now.slots.now in
+    let e = c.in_err-read.field-0.0 in
+    let is : c.from_residual.result ≡ Err e = search rules in
+    subst (λ r. GivenBack cs c.args.cell r cs) (sym is) (read_none cs c.args.cell e (sym c.in_err-read.ensures))
+
+pub bounds-self-cell : goal.bounds-self-cell
+bounds-self-cell c =
+    let s = c.args.self.now.slots.now in
+    (live_in_use marked_cell s c.args.cell (ap is_some (read_some (meant marked_cell s) c.args.cell _ (sym c.in_ok-read.ensures)))).0
 
 pub overflow_sub-self : goal.overflow_sub-self
 overflow_sub-self c =
     let s = c.args.self.now in
-    let count = count_slot marked_cell s.slots.now s.capacity s.sized c.args.cell _ Free _ c.if-cell-self.false (ap marked_cell c.in-Live.is) in
-    omega (arith, s.counted, count)
+    let cs = meant marked_cell s.slots.now in
+    let live = ap is_some (read_some cs c.args.cell _ (sym c.in_ok-read.ensures)) in
+    omega (arith, s.counted, live_some cs c.args.cell live)
 
 pub invariant_of-self : goal.invariant_of-self
 invariant_of-self c =
     let s = c.args.self.now in
-    let less = count_less marked_cell s.slots.now s.capacity s.sized s.live c.args.cell _ Free _ s.counted c.if-cell-self.false (ap marked_cell c.in-Live.is) refl in
+    let live = ap is_some (read_some (meant marked_cell s.slots.now) c.args.cell _ (sym c.in_ok-read.ensures)) in
+    let given = changed_slot marked_cell (front s.slots.now) c.args.cell None None (front (set s.slots.now c.args.cell None)) live (front_set s.slots.now c.args.cell None) refl in
     record {
-      sized = kept_size s.slots.now s.capacity c.args.cell _ s.sized;
-      counted = omega (arith, less);
+      sized = kept_size s.slots.now s.capacity c.args.cell None s.sized;
+      counted = omega (arith, s.counted, given_count given);
       inside = s.inside;
     }
 
-pub returns-in-Live : goal.returns-in-Live
-returns-in-Live c =
+pub returns : goal.returns
+returns c =
     let s = c.args.self.now in
+    let live = ap is_some (read_some (meant marked_cell s.slots.now) c.args.cell _ (sym c.in_ok-read.ensures)) in
     record {
-      means = changed_slot marked_cell s.slots.now s.capacity s.sized c.args.cell _ _ None c.if-cell-self.false (ap (λ t. is_some (marked_cell t)) c.in-Live.is) refl;
-      kept = record { same = refl; past = kept_past s.slots.now s.capacity c.args.cell _ s.sized c.if-cell-self.false };
-    }
-
-pub returns-in-Free : goal.returns-in-Free
-returns-in-Free c =
-    let s = c.args.self.now in
-    record {
-      means = dead_slot marked_cell s.slots.now s.capacity s.sized c.args.cell _ c.if-cell-self.false (ap marked_cell c.in-Free.is);
-      kept = record { same = refl; past = refl };
+      means = changed_slot marked_cell (front s.slots.now) c.args.cell None None (front (set s.slots.now c.args.cell None)) live (front_set s.slots.now c.args.cell None) refl;
+      kept = record { same = refl; past = live_past marked_cell s.slots.now c.args.cell None live };
     }

@@ -1,39 +1,8 @@
-use Rattle.std.proofs.Common.{is_some, Some, refl, ap, rules}
-use Rattle.marked.specs.declared.slots.MarkedSlot.TheVariants.{Live}
-use Rattle.marked.specs.Marks.{marked_cell}
-use Rattle.cells.proofs.LentLaws.{kept_size, kept_past, dead_past, dead_slot, changed_slot, count_same}
+use Rattle.marked.proofs.MarkLaws.{written}
 use Rattle.marked.proofs.store.MarkedStoreCellStore.write.Goals as goal
-
-pub returns-then-cell-self : goal.returns-then-cell-self
-returns-then-cell-self c =
-    let s = c.args.self.now in
-    record {
-      means = dead_past marked_cell s.slots.now s.capacity s.sized c.args.cell c.if-cell-self.true;
-      kept = record { same = refl; past = refl };
-    }
 
 pub invariant_of-self : goal.invariant_of-self
 invariant_of-self c =
     let s = c.args.self.now in
-    record {
-      sized = kept_size s.slots.now s.capacity c.args.cell _ s.sized;
-      counted = count_same marked_cell s.slots.now s.capacity s.sized s.live c.args.cell _ _ _ _ s.counted c.if-cell-self.false (ap marked_cell c.in-Live.is) refl;
-      inside = s.inside;
-    }
-
-pub returns-in-Live : goal.returns-in-Live
-returns-in-Live c =
-    let s = c.args.self.now in
-    let written = changed_slot marked_cell s.slots.now s.capacity s.sized c.args.cell _ (Live c.args.contents) (Some c.args.contents) c.if-cell-self.false (ap (λ t. is_some (marked_cell t)) c.in-Live.is) refl in
-    record {
-      means = search rules;
-      kept = record { same = refl; past = kept_past s.slots.now s.capacity c.args.cell _ s.sized c.if-cell-self.false };
-    }
-
-pub returns-in-Free : goal.returns-in-Free
-returns-in-Free c =
-    let s = c.args.self.now in
-    record {
-      means = dead_slot marked_cell s.slots.now s.capacity s.sized c.args.cell _ c.if-cell-self.false (ap marked_cell c.in-Free.is);
-      kept = record { same = refl; past = refl };
-    }
+    let w = written s.slots.now s.capacity s.sized s.live c.args.cell c.args.contents c.write_slot.result c.write_slot.new.slots s.counted c.write_slot.ensures.means c.write_slot.ensures.put in
+    record { sized = w.0; counted = w.1; inside = s.inside }
