@@ -19,19 +19,9 @@ use cells::records::CellRecord;
 use cells::store::CellStore;
 use cells::values::Value;
 use data::drops::drop_value;
+use data::work_list::look;
 use machine::{Frame, Machine, after, code_at};
 use rules::FaultKind;
-
-// The record of the cell with this number, if it is live.
-fn record_of<S: CellStore>(store: &S, number: u32) -> Option<CellRecord>
-    ensures is { result ≡ at_cell (S.CellStore.cells store.now) number }
-    ensures small { (contents : Record) → result ≡ Some contents → number < 65535 }
-{
-    if number >= 65535 {
-        return None;
-    }
-    store.read(number as u16).ok()
-}
 
 // A branch whose pattern is a wildcard: the whole value is dropped.
 fn take_any<S: CellStore>(
@@ -97,7 +87,7 @@ pub fn hand_tested<S: CellStore>(
     let Value::Cell(number) = value else {
         return Err(FaultKind::Stuck);
     };
-    let contents = record_of(store, number).ok_or(FaultKind::Stuck)?;
+    let contents = look(store, number)?;
     let first = code_at(machine.script, at as usize + 1).past;
     let past = code_at(machine.script, at as usize).past;
     match choose(machine.script, first, past, contents.constructor) {

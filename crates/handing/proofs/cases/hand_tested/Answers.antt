@@ -1,4 +1,4 @@
-use Rattle.std.proofs.Common.{Err, Some, ◌∙◌, sym, ◌∷◌, ap, subst, arith}
+use Rattle.std.proofs.Common.{Err, Some, ◌∙◌, ◌∷◌, ap, subst, arith}
 use Rattle.data.specs.Trees.{built}
 use Rattle.handing.proofs.Opened.{dead_cell, no_tested, below_case, on_opened, branches_at, constructor_read}
 use Rattle.handing.proofs.Views.{in_hand, waiting_for, on_tested}
@@ -26,7 +26,7 @@ returns-in_default g c = record {
 
 pub returns-in_err-contents-clause-law : goal.returns-in_err-contents-clause-law
 unfolding hand
-returns-in_err-contents-clause-law g c = λ P Z m₀ f K env a t H. absurd (dead_cell c.in-Cell.is (sym c.record_of.ensures.is ∙ c.in_err-contents.ensures.ok_part) (in_hand H.value H.mirrored).data_held)
+returns-in_err-contents-clause-law g c = λ P Z m₀ f K env a t H. absurd (dead_cell c.in-Cell.is c.in_err-contents.ensures.1 (in_hand H.value H.mirrored).data_held)
 
 pub returns-in-None-clause-law : goal.returns-in-None-clause-law
 unfolding hand tested_handed
@@ -38,7 +38,7 @@ returns-in-None-clause-law g c = λ P Z m₀ f K env a t H.
     (λ p bs k vs H.
     let R = in_hand H.value H.mirrored in
     let B = branches_at c.args.at (ap (λ (x : Code). x.past) c.code_at-first.ensures.code) (ap (λ (x : Code). x.past) c.code_at-past.ensures.code) (below_case (waiting_for H)).branches in
-    let C = subst (ChosenNone P cs (names env) bs) (constructor_read c.in-Cell.is (sym c.record_of.ensures.is ∙ c.in_ok-contents.ensures.ok_part) R.data_held) (c.in-None.ensures P (names env) bs R.ready.forward B) in
+    let C = subst (ChosenNone P cs (names env) bs) (constructor_read c.in-Cell.is c.in_ok-contents.ensures.0 R.data_held) (c.in-None.ensures P (names env) bs R.ready.forward B) in
     by_rule (C.is Z p vs K env a) (moved_not H.mirrored)) H
 
 pub returns-in-Some-Any-clause-law : goal.returns-in-Some-Any-clause-law
@@ -50,7 +50,7 @@ returns-in-Some-Any-clause-law g c = λ P Z m₀ f K env a t H.
     (λ p bs k vs H.
     let R = in_hand H.value H.mirrored in
     let B = branches_at c.args.at (ap (λ (x : Code). x.past) c.code_at-first.ensures.code) (ap (λ (x : Code). x.past) c.code_at-past.ensures.code) (below_case (waiting_for H)).branches in
-    let C = subst (λ k. ChosenAny P cs (names env) bs k c.in-Some-Any.branch) (constructor_read c.in-Cell.is (sym c.record_of.ensures.is ∙ c.in_ok-contents.ensures.ok_part) R.data_held) (subst (Chosen P cs (names env) bs c.in_ok-contents.contents.constructor) (c.in-Some-Any.is ∙ ap Some c.in-Some-Any.field-0-is) (c.choose.ensures P (names env) bs R.ready.forward B)) in
+    let C = subst (λ k. ChosenAny P cs (names env) bs k c.in-Some-Any.branch) (constructor_read c.in-Cell.is c.in_ok-contents.ensures.0 R.data_held) (subst (Chosen P cs (names env) bs c.in_ok-contents.contents.constructor) (c.in-Some-Any.is ∙ ap Some c.in-Some-Any.field-0-is) (c.choose.ensures P (names env) bs R.ready.forward B)) in
     c.take_any.ensures.law P Z m₀ p bs K env a k vs (subst (λ v. Hands P Z m₀ (case_test p bs) K env a (built k vs) (Tested c.args.at) v r (g.S.CellStore.cells c.args.store.now)) c.in-Cell.is H) C) H
 
 pub returns-in-Some-Fields-clause-law : goal.returns-in-Some-Fields-clause-law
@@ -63,5 +63,5 @@ returns-in-Some-Fields-clause-law g c = λ P Z m₀ f K env a t H.
     (λ p bs k vs H.
     let R = in_hand H.value H.mirrored in
     let B = branches_at c.args.at (ap (λ (x : Code). x.past) c.code_at-first.ensures.code) (ap (λ (x : Code). x.past) c.code_at-past.ensures.code) (below_case (waiting_for H)).branches in
-    let C = subst (λ k. ChosenFields P cs (names env) bs k c.in-Some-Fields.branch c.in-Some-Fields.mask) (constructor_read c.in-Cell.is (sym c.record_of.ensures.is ∙ c.in_ok-contents.ensures.ok_part) R.data_held) (subst (Chosen P cs (names env) bs c.in_ok-contents.contents.constructor) (c.in-Some-Fields.is ∙ ap Some c.in-Some-Fields.field-0-is) (c.choose.ensures P (names env) bs R.ready.forward B)) in
-    c.take_fields.ensures.law P Z m₀ p bs K env a k vs (subst (λ v. Hands P Z m₀ (case_test p bs) K env a (built k vs) (Tested c.args.at) v r m) c.in-Cell.is H) (sym c.record_of.ensures.is ∙ c.in_ok-contents.ensures.ok_part) C) H
+    let C = subst (λ k. ChosenFields P cs (names env) bs k c.in-Some-Fields.branch c.in-Some-Fields.mask) (constructor_read c.in-Cell.is c.in_ok-contents.ensures.0 R.data_held) (subst (Chosen P cs (names env) bs c.in_ok-contents.contents.constructor) (c.in-Some-Fields.is ∙ ap Some c.in-Some-Fields.field-0-is) (c.choose.ensures P (names env) bs R.ready.forward B)) in
+    c.take_fields.ensures.law P Z m₀ p bs K env a k vs (subst (λ v. Hands P Z m₀ (case_test p bs) K env a (built k vs) (Tested c.args.at) v r m) c.in-Cell.is H) c.in_ok-contents.ensures.0 C) H
