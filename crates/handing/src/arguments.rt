@@ -108,13 +108,9 @@ pub fn hand_field<S: CellStore>(
         machine.frames.replace_top(Frame::Field(at, later));
         return machine.go(next);
     }
-    match code.op {
-        Op::Build(constructor, count) => {
-            if count == 0 {
-                return Err(FaultKind::Stuck);
-            }
-            build_last(machine, store, constructor, count as usize - 1, value)
-        }
-        _ => Err(FaultKind::Stuck),
-    }
+    let Op::Build(constructor, count) = code.op else {
+        return Err(FaultKind::Stuck);
+    };
+    let held = (count as usize).checked_sub(1).ok_or(FaultKind::Stuck)?;
+    build_last(machine, store, constructor, held, value)
 }

@@ -1,4 +1,5 @@
 use Rattle.std.proofs.Common.{Err, ◌≡◌, ◌+◌, ◌-◌, ◌<◌, ◌≤◌, suc, inl, inr, true, ◌∷◌, ◌++◌, [], map, set, drop, None, sym, ap, ◌∙◌, subst, arith}
+use Rattle.std.specs.Option.{SomeIff}
 use Rattle.data.specs.Taking.{Out}
 use Rattle.data.specs.Trees.{none, more}
 use Rattle.handing.proofs.Views.{HandedBy, in_hand, waiting_for, on_field, arguments_next, arguments_done}
@@ -55,43 +56,6 @@ returns-then-next-code-clause-law g c = λ P Z m₀ f K env a t H.
     (ap (map is_full) pushed.tops ∙ ap (λ q. true ∷ q) R.full)
     (subst (λ q. Out m (values_in q) (more t (trees_in (env ++ kept K))) m₀) (sym pushed.tops) R.data_held) R.input R.taken R.given) X) count)) H.mirrored
 
-pub returns-then-count-eq0-clause-law : goal.returns-then-count-eq0-clause-law
-returns-then-count-eq0-clause-law g c = λ P Z m₀ f K env a t H.
-    let r = c.args.machine.now in
-    let m = g.S.CellStore.cells c.args.store.now in
-    let code = c.code_at-code.ensures.code in
-    let op = ap (λ (x : Code). x.op) (sym code) ∙ c.in-Build.is in
-    on_field (HandedBy P Z m₀ K env a t r m _ r m) (waiting_for H)
-    (λ p q n k es here o count A w M. let is : n ≡ c.in-Build.count = cc in absurd (omega (arith, count, c.if-count-eq0.true))) H.mirrored
-
-pub returns-else-count-eq0-clause-law : goal.returns-else-count-eq0-clause-law
-unfolding hand proceed
-returns-else-count-eq0-clause-law g c = λ P Z m₀ f K env a t H.
-    let r = c.args.machine.now in
-    let cs = r.script.now.code in
-    let m = g.S.CellStore.cells c.args.store.now in
-    let m' = g.S.CellStore.cells c.build_last.new.store in
-    let code = c.code_at-code.ensures.code in
-    let op = ap (λ (x : Code). x.op) (sym code) ∙ c.in-Build.is in
-    let past_is : c.code_at-code.result.past ≡ past P cs c.args.at = ap (λ (x : Code). x.past) code in
-    let held = c.in-Build.count - 1 in
-    on_field (HandedBy P Z m₀ K env a t r m c.build_last.result c.build_last.new.machine m') (waiting_for H)
-    (λ p q n k es here o count A w M.
-    let R = in_hand H.value M in
-    let inner = argument t ∷ env in
-    let number : n ≡ c.in-Build.count = cc in
-    let constructor : q ≡ c.in-Build.constructor = cc in
-    by_rule (entries_fit P Z K env a 1 (proceed P Z p (builds q) (k + 1) es K inner a) (omega (arith, slots_count R, R.slots_room, c.if-len-room.false, c.len.ensures.tops, c.room.ensures)))
-    (arguments_done (λ xs. n ≡ k + (1 + argument_count xs) → Moved P Z m₀ (st (next_argument p (builds q) k es ∷ K) env (finished t) a) (proceed P Z p (builds q) (k + 1) xs K inner a) c.build_last.result c.build_last.new.machine m')
-    A (subst (λ i. i ≤ c.args.next) past_is c.if-next-code.false)
-    (λ last.
-    let all : k ≡ held = omega (arith, last, number) in
-    let few : held < 6 = omega (arith, R.ready.few c.args.at q n o, last, number) in
-    by_rule (ap (λ k. apply P Z p (builds q) (k + 1) K inner a) all ∙ ap (λ q. apply P Z p (builds q) (held + 1) K inner a) constructor)
-    (c.build_last.ensures.law P Z m₀ _ K env a p es t _ H.others M
-    (subst (λ q. Rests P Z m₀ (next_argument p (builds q) held es ∷ K) env a (c.args.value ∷ []) (more t none) r m) constructor (subst (λ k. Rests P Z m₀ (next_argument p (builds q) k es ∷ K) env a (c.args.value ∷ []) (more t none) r m) all R))
-    H.stacked (subst (λ k. Waits P cs (drop k (names env)) K H.others) all w) few)) count)) H.mirrored
-
 pub returns-in_default : goal.returns-in_default
 returns-in_default g c = record {
   steady = record { taken = omega arith; given = omega arith };
@@ -102,3 +66,42 @@ returns-in_default g c = record {
       on_field (HandedBy P Z m₀ K env a t r m _ r m) (waiting_for H)
       (λ p q n k es here o count A w M. absurd (c.in_default.not-Build q n (ap (λ (x : Code). x.op) code ∙ o))) H.mirrored;
 }
+
+pub returns-in_err-held-clause-law : goal.returns-in_err-held-clause-law
+returns-in_err-held-clause-law g c = λ P Z m₀ f K env a t H.
+    let r = c.args.machine.now in
+    let m = g.S.CellStore.cells c.args.store.now in
+    let code = c.code_at-code.ensures.code in
+    let op = ap (λ (x : Code). x.op) (sym code) ∙ c.in-Build.is in
+    let none_held = subst (λ h. SomeIff h (1 ≤ c.in-Build.count) (c.in-Build.count - 1)) c.in_err-held.ensures.ok_part c.checked_sub.ensures in
+    on_field (HandedBy P Z m₀ K env a t r m _ r m) (waiting_for H)
+    (λ p q n k es here o count A w M. let is : n ≡ c.in-Build.count = cc in absurd (omega (arith, count, is, none_held))) H.mirrored
+
+pub returns-clause-law : goal.returns-clause-law
+unfolding hand proceed
+returns-clause-law g c = λ P Z m₀ f K env a t H.
+    let r = c.args.machine.now in
+    let cs = r.script.now.code in
+    let m = g.S.CellStore.cells c.args.store.now in
+    let m' = g.S.CellStore.cells c.build_last.new.store in
+    let code = c.code_at-code.ensures.code in
+    let op = ap (λ (x : Code). x.op) (sym code) ∙ c.in-Build.is in
+    let past_is : c.code_at-code.result.past ≡ past P cs c.args.at = ap (λ (x : Code). x.past) code in
+    let held = c.in_ok-held.held in
+    let one_less = subst (λ h. SomeIff h (1 ≤ c.in-Build.count) (c.in-Build.count - 1)) c.in_ok-held.ensures.ok_part c.checked_sub.ensures in
+    on_field (HandedBy P Z m₀ K env a t r m c.build_last.result c.build_last.new.machine m') (waiting_for H)
+    (λ p q n k es here o count A w M.
+    let R = in_hand H.value M in
+    let inner = argument t ∷ env in
+    let number : n ≡ c.in-Build.count = cc in
+    let constructor : q ≡ c.in-Build.constructor = cc in
+    by_rule (entries_fit P Z K env a 1 (proceed P Z p (builds q) (k + 1) es K inner a) (omega (arith, slots_count R, R.slots_room, c.if-len-room.false, c.len.ensures.tops, c.room.ensures)))
+    (arguments_done (λ xs. n ≡ k + (1 + argument_count xs) → Moved P Z m₀ (st (next_argument p (builds q) k es ∷ K) env (finished t) a) (proceed P Z p (builds q) (k + 1) xs K inner a) c.build_last.result c.build_last.new.machine m')
+    A (subst (λ i. i ≤ c.args.next) past_is c.if-next-code.false)
+    (λ last.
+    let all : k ≡ held = omega (arith, last, number, one_less) in
+    let few : held < 6 = omega (arith, R.ready.few c.args.at q n o, last, number) in
+    by_rule (ap (λ k. apply P Z p (builds q) (k + 1) K inner a) all ∙ ap (λ q. apply P Z p (builds q) (held + 1) K inner a) constructor)
+    (c.build_last.ensures.law P Z m₀ _ K env a p es t _ H.others M
+    (subst (λ q. Rests P Z m₀ (next_argument p (builds q) held es ∷ K) env a (c.args.value ∷ []) (more t none) r m) constructor (subst (λ k. Rests P Z m₀ (next_argument p (builds q) k es ∷ K) env a (c.args.value ∷ []) (more t none) r m) all R))
+    H.stacked (subst (λ k. Waits P cs (drop k (names env)) K H.others) all w) few)) count)) H.mirrored
