@@ -11,7 +11,7 @@ use Rattle.data.proofs.Outs.{join, tally, out_tally}
 use Rattle.data.specs.Taking.{Out}
 use Rattle.data.specs.Trees.{Tree, Trees, none, more, size}
 use Rattle.grammar.specs.Trees.{PatternPart, bound, skipped}
-use Rattle.handing.proofs.Left.{capped_more}
+use Rattle.handing.proofs.Left.{capped_more, tally_join}
 use Rattle.handing.proofs.Patterns.{lowest_bound, lowest_skipped}
 use Rattle.handing.specs.Binding.{BindsFields}
 use Rattle.machine.specs.Holding.{value_in, is_full, values_in, holds, trees_in, capped}
@@ -175,10 +175,6 @@ module _ {after : Environment} {n total : ℕ} {slots : List Slot} {m m₀ : Cel
   -- no field is left
   pub all_bound : {mask room : ℕ} → Fitting [] mask total room slots after n m m₀ → BindsFields after n (Some total) slots m m₀
   all_bound F = all F.env F.count F.later F.parts F.trees F.total_is F.bound_to F.sum F.full F.long F.data_held
-
-tally_join : (a b : Trees) → tally (join a b) ≡ tally a + tally b
-tally_join none b = omega arith
-tally_join (more t a) b = omega (arith, tally_join a b)
 
 tally_row : (env : Environment) → tally (trees_in env) ≡ length env
 tally_row [] = refl

@@ -43,7 +43,7 @@ popped i all ss x rest d p =
 pub capped_more : (a x n : ℕ) → a ≡ capped x → min (a + n) 18446744073709551615 ≡ capped (x + n)
 capped_more a x n e = omega arith
 
-tally_join : (a b : Trees) → tally (join a b) ≡ tally a + tally b
+pub tally_join : (a b : Trees) → tally (join a b) ≡ tally a + tally b
 tally_join none b = omega arith
 tally_join (more t a) b = omega (arith, tally_join a b)
 

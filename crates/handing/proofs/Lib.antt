@@ -6,3 +6,4 @@ pub mod Branching
 pub mod Patterns
 pub mod Fitting
 pub mod Opened
+pub mod Dropped

@@ -1,6 +1,7 @@
 use Rattle.std.proofs.Common.{◌≡◌, ◌+◌, ◌∷◌, set, min, sym, refl, ap, ◌∙◌, subst, arith}
 use Rattle.data.proofs.Moves.{drop_held}
 use Rattle.data.specs.Trees.{built, size}
+use Rattle.handing.proofs.Dropped.{drop_never_refused}
 use Rattle.handing.proofs.Opened.{below_case}
 use Rattle.handing.proofs.Views.{in_hand, waiting_for}
 use Rattle.machine.proofs.Cells.{capped_add}
@@ -13,10 +14,7 @@ use Rattle.rules.specs.States.{scope_end, gives}
 use Rattle.handing.proofs.cases.take_any.Goals as goal
 
 pub returns-in_err-count-clause-law : goal.returns-in_err-count-clause-law
-returns-in_err-count-clause-law g c = λ P Z m₀ p bs K env a k vs H A.
-    let h = drop_held c.in_err-count.ensures (in_hand H.value H.mirrored).data_held in
-    let is = h.0 in
-    absurd (cc)
+returns-in_err-count-clause-law g c = λ P Z m₀ p bs K env a k vs H A. absurd (drop_never_refused H c.in_err-count.ensures)
 
 pub returns-clause-law : goal.returns-clause-law
 returns-clause-law g c = λ P Z m₀ p bs K env a k vs H A.

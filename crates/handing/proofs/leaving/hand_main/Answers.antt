@@ -4,6 +4,7 @@ use Rattle.data.proofs.Moves.{drop_held}
 use Rattle.data.specs.Taking.{Out}
 use Rattle.stack.specs.Items.{tops}
 use Rattle.data.specs.Trees.{size}
+use Rattle.handing.proofs.Dropped.{drop_never_refused}
 use Rattle.handing.proofs.Ends.{no_names}
 use Rattle.handing.proofs.Views.{HandedBy, in_hand, waiting_for, on_main}
 use Rattle.machine.proofs.Cells.{capped_add}
@@ -17,10 +18,7 @@ use Rattle.rules.specs.Steps.{hand}
 use Rattle.handing.proofs.leaving.hand_main.Goals as goal
 
 pub returns-in_err-count-clause-law : goal.returns-in_err-count-clause-law
-returns-in_err-count-clause-law g c = λ P Z m₀ f K env a t H.
-    let h = drop_held c.in_err-count.ensures (in_hand H.value H.mirrored).data_held in
-    let is = h.0 in
-    absurd (cc)
+returns-in_err-count-clause-law g c = λ P Z m₀ f K env a t H. absurd (drop_never_refused H c.in_err-count.ensures)
 
 pub returns-clause-law : goal.returns-clause-law
 unfolding hand

@@ -1,6 +1,7 @@
 use Rattle.std.proofs.Common.{◌≡◌, ◌+◌, ◌<◌, ◌≤◌, ◌∷◌, set, drop, min, sym, refl, ap, ◌∙◌, subst}
 use Rattle.data.proofs.Moves.{drop_held}
 use Rattle.data.specs.Trees.{size}
+use Rattle.handing.proofs.Dropped.{drop_never_refused}
 use Rattle.handing.proofs.Views.{HandedBy, in_hand, waiting_for, on_part, row_next, row_done}
 use Rattle.machine.proofs.Cells.{capped_add}
 use Rattle.machine.proofs.Resting.{renewed, reframed}
@@ -16,10 +17,7 @@ use Rattle.handing.proofs.parts.hand_part.Goals as goal
 
 pub returns-in_err-count-clause-law : goal.returns-in_err-count-clause-law
 unfolding hand part_handed
-returns-in_err-count-clause-law g c = λ P Z m₀ f K env a t H.
-    let h = drop_held c.in_err-count.ensures (in_hand H.value H.mirrored).data_held in
-    let is = h.0 in
-    absurd (cc)
+returns-in_err-count-clause-law g c = λ P Z m₀ f K env a t H. absurd (drop_never_refused H c.in_err-count.ensures)
 
 pub returns-then-next-past-clause-law : goal.returns-then-next-past-clause-law
 unfolding hand part_handed
