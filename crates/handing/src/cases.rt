@@ -90,10 +90,9 @@ pub fn hand_tested<S: CellStore>(
     let contents = look(store, number)?;
     let first = code_at(machine.script, at as usize + 1).past;
     let past = code_at(machine.script, at as usize).past;
-    match choose(machine.script, first, past, contents.constructor) {
-        None => Err(FaultKind::NoBranch),
-        Some(Choice::Any(branch)) => take_any(machine, store, at, branch, value),
-        Some(Choice::Fields(branch, mask)) => take_fields(
+    match choose(machine.script, first, past, contents.constructor).ok_or(FaultKind::NoBranch)? {
+        Choice::Any(branch) => take_any(machine, store, at, branch, value),
+        Choice::Fields(branch, mask) => take_fields(
             machine,
             store,
             at,
