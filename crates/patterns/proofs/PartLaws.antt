@@ -1,5 +1,5 @@
 -- A pattern's tokens, one by one.
-use Rattle.std.proofs.Common.{◌≡◌, ℕ, ◌+◌, ◌≤◌, List, [], ◌∷◌, length, Some, None, Option, take, drop, sym, refl, ap, ◌∙◌, subst, arith}
+use Rattle.std.proofs.Common.{◌≡◌, ℕ, ◌+◌, ◌-◌, ◌≤◌, List, [], ◌∷◌, length, Some, None, Option, take, drop, sym, refl, ap, ◌∙◌, subst, arith}
 use Rattle.forms.specs.Looks.{Seen, Sees}
 use Rattle.forms.specs.declared.sight.Look.{Look}
 use Rattle.forms.specs.declared.sight.Look.TheVariants as look
@@ -12,8 +12,9 @@ use Rattle.grammar.specs.Trees as tree
 use Rattle.grammar.specs.Trees.{Ident, PatternPart, Pattern}
 use Rattle.grammar.proofs.StreamLaws.{token_at}
 use Rattle.layout.specs.Spelling.{Spells, Shows}
+use Rattle.layout.specs.Words.{word_at}
 use Rattle.layout.specs.declared.word.Word.{Word}
-use Rattle.patterns.specs.Parts.{IsWord, PartsAt, HeadAt, IsHead, IsPart}
+use Rattle.patterns.specs.Parts.{PartsAt, HeadAt, IsHead, IsPart}
 use Rattle.patterns.specs.declared.head.Head.{Head}
 use Rattle.text.specs.Grammar.{NoBracket}
 use Rattle.text.specs.Tokens.{lexeme, Lexed, also, lexed_from}
@@ -25,20 +26,25 @@ use Rattle.text.specs.declared.token.TokenKind.TheVariants as kind
 clash : ◌≡◌ {A = ℕ} 0 1 → ⊥
 clash z = omega arith
 
+-- what the front says of the word of a name at p, behind which stands another place
+abbrev pub TakesUp : ℕ → ℕ → Word → Type 0
+TakesUp p after name = p ≤ after → after ≤ p + 63 → after ≤ 65535 → name ≡ word_at p (after - p)
+
 -- a name that is seen is spelt by the part of the text that it takes up
-pub name_lies : (text : List ℕ) (place p after : ℕ) (w : List ℕ) (name : Word) (x : Ident) → length text ≤ 65535 → Seen text place kind.Name w p after → IsWord p after name
+pub name_lies : (text : List ℕ) (place p after : ℕ) (w : List ℕ) (name : Word) (x : Ident) → length text ≤ 65535 → Seen text place kind.Name w p after → TakesUp p after name
     → x.place ≡ p → x.bytes ≡ w → Spells text name x
 name_lies text place p after w name x short seen is ep ew =
     let t = token_at text place (lexeme kind.Name p w) (lexed_from text after) seen.follows in
     let few : length w ≤ 63 = t.spelt.3 in
     let far : after ≡ p + length w = seen.size in
-    let place_is : name.place ≡ p = is.place_is (omega (arith, seen.within)) in
-    let size_is : name.size ≡ length w = omega (arith, is.size_is (omega arith)) in
-    let e : take name.size (drop name.place text) ≡ take (length w) (drop p text) = cc (place_is, size_is) in
+    let e : name ≡ word_at p (after - p) = is (omega arith) (omega arith) (omega (arith, seen.within)) in
+    let place_is : name.place ≡ p = ap (λ (n : Word). n.place) e in
+    let size_is : name.size ≡ length w = omega (arith, ap (λ (n : Word). n.size) e) in
+    let same : take name.size (drop name.place text) ≡ take (length w) (drop p text) = cc (place_is, size_is) in
     record {
       place_is = place_is ∙ sym ep;
       size_is = size_is ∙ ap length (sym ew);
-      bytes_are = e ∙ t.part ∙ sym ew;
+      bytes_are = same ∙ t.part ∙ sym ew;
       within = omega (arith, t.within);
     }
 
@@ -70,7 +76,7 @@ first_part text place p after k w x xs seen n at =
     }
 
 by_name : (text : List ℕ) (place p after : ℕ) (w : List ℕ) (name : Word) (xs : List PatternPart) {s : Sexp} {x : PatternPart} → PartOf s x → s ≡ atom kind.Name p w
-    → length text ≤ 65535 → Seen text place kind.Name w p after → IsWord p after name → PartsAt text after xs → IsPart text (x ∷ xs) (Some (record { name = Some name; after = after }))
+    → length text ≤ 65535 → Seen text place kind.Name w p after → TakesUp p after name → PartsAt text after xs → IsPart text (x ∷ xs) (Some (record { name = Some name; after = after }))
 by_name text place p after w name xs (bound {x = x} h) e short seen is more =
     let z : atom kind.Name x.place x.bytes ≡ atom kind.Name p w = sym h ∙ e in
     let ep : x.place ≡ p = cc in
@@ -94,7 +100,7 @@ no_name text place p after k w seen n at = none at.derived at.follow
         let z : lexeme k p w ≡ lexeme (kind.Close at.shape) at.end (closing at.shape) = cc in
         subst NoBracket (ap (λ t. t.kind) z) n
 
-pub next_name : (text : List ℕ) (place p after : ℕ) (w : List ℕ) (name : Word) (xs : List PatternPart) → length text ≤ 65535 → Seen text place kind.Name w p after → IsWord p after name
+pub next_name : (text : List ℕ) (place p after : ℕ) (w : List ℕ) (name : Word) (xs : List PatternPart) → length text ≤ 65535 → Seen text place kind.Name w p after → TakesUp p after name
     → PartsAt text place xs → IsPart text xs (Some (record { name = Some name; after = after }))
 next_name text place p after w name [] short seen is at = no_name text place p after kind.Name w seen tt at
 next_name text place p after w name (x ∷ xs) short seen is at =
@@ -110,7 +116,7 @@ next_other text place p after k w (x ∷ xs) seen n f at =
 
 -- the head of a pattern
 pub head_lies : (text : List ℕ) (place p after q : ℕ) (k : TokenKind) (w : List ℕ) (name : Word) (c : Ident) (xs : List PatternPart) → length text ≤ 65535 → Seen text place k w p after
-    → NoBracket k → IsWord p after name → HeadAt text place c xs → IsHead text (tree.constructor q c xs) (Some (record { place = q; name = name; inside = after }))
+    → NoBracket k → TakesUp p after name → HeadAt text place c xs → IsHead text (tree.constructor q c xs) (Some (record { place = q; name = name; inside = after }))
 head_lies text place p after q k w name c xs short seen n is at =
     let e : also (lexeme k p w) (lexed_from text after) ≡ stream at.first (closed_by at.forms at.shape at.end at.rest) = sym seen.follows ∙ at.follow in
     let f = is_atom k p w (lexed_from text after) at.first _ n e in

@@ -1,5 +1,5 @@
 -- What the parts of a pattern are, read off the tokens from a place on.
-use Rattle.std.specs.Prelude.{◌≡◌, ℕ, ◌+◌, ◌-◌, ◌<◌, ◌≤◌, List, [], ◌∷◌, length, Some, None, Option}
+use Rattle.std.specs.Prelude.{◌≡◌, ℕ, ◌<◌, ◌≤◌, List, [], ◌∷◌, length, Some, None, Option}
 use Rattle.forms.specs.Rows.{closed_by}
 use Rattle.grammar.specs.Grammar.{NameOf, PartsOf}
 use Rattle.grammar.specs.Sexps.{Sexp, Sexps, cons, AllAtoms}
@@ -10,11 +10,6 @@ use Rattle.patterns.specs.declared.head.Head.{Head}
 use Rattle.patterns.specs.declared.part.Part.{Part}
 use Rattle.text.specs.Tokens.{Lexed, lexed_from}
 use Rattle.text.specs.declared.bracket.Bracket.{Bracket}
-
--- a word from a place up to another one
-pub record IsWord (place after : ℕ) (w : Word) : Type 0 where
-  pub place_is : place ≤ 65535 → w.place ≡ place
-  pub size_is : after ≤ place + 255 → w.size ≡ after - place
 
 -- From a place on stand these parts, up to the bracket that closes the pattern.
 pub record PartsAt (text : List ℕ) (place : ℕ) (xs : List PatternPart) : Type 0 where

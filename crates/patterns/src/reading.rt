@@ -2,25 +2,14 @@
 ghost use Rattle.std.specs.Prelude.{◌≡◌, ◌≤◌, List, length};
 ghost use Rattle.grammar.specs.Trees.{Ident, PatternPart, Pattern, constructor};
 ghost use Rattle.layout.specs.Spelling.{Shows};
-ghost use Rattle.patterns.specs.Parts.{IsWord, PartsAt, HeadAt, IsHead, Onward, IsPart};
+ghost use Rattle.patterns.specs.Parts.{PartsAt, HeadAt, IsHead, Onward, IsPart};
 ghost use Rattle.text.specs.declared.token.TokenKind.TheVariants.{Name};
 ghost use Rattle.forms.specs.Looks.{Seen};
 
 use super::head::Head;
 use super::part::Part;
-use forms::{Look, look_at};
-use layout::Word;
+use forms::{Look, NameAt, look_at};
 use text::TokenKind;
-
-// A name from a place up to another, as a part of a text.
-fn word_of(place: usize, after: usize) -> Word
-    ensures { IsWord place after result }
-{
-    Word {
-        place: place.min(65535) as u16,
-        size: after.saturating_sub(place).min(255) as u8,
-    }
-}
 
 // The pattern at a place whose constructor's name stands next.
 fn constructor_at(text: &[u8], place: usize, inside: usize) -> Option<Head>
@@ -29,7 +18,7 @@ fn constructor_at(text: &[u8], place: usize, inside: usize) -> Option<Head>
     match look_at(text, inside) {
         Look::Atom(_, at, after) => Some(Head {
             place,
-            name: word_of(at, after),
+            name: NameAt { place: at, after }.word(),
             inside: after,
         }),
         _ => None,
@@ -52,13 +41,11 @@ pub fn next_part(text: &[u8], place: usize) -> Option<Part>
     ensures part { (xs : List PatternPart) → length text.now ≤ 65535 → PartsAt text.now place xs → IsPart text.now xs result }
 {
     match look_at(text, place) {
-        Look::Atom(kind, at, after) => match kind {
-            TokenKind::Name => Some(Part {
-                name: Some(word_of(at, after)),
-                after,
-            }),
-            _ => Some(Part { name: None, after }),
-        },
+        Look::Atom(kind, at, after) if kind == TokenKind::Name => Some(Part {
+            name: Some(NameAt { place: at, after }.word()),
+            after,
+        }),
+        Look::Atom(_, _, after) => Some(Part { name: None, after }),
         _ => None,
     }
 }
