@@ -1,23 +1,28 @@
 // The tokens of a text, a line for each.
 use explain::shown;
-use std::io;
+use std::{fmt, io};
 use text::{Reader, Token, TokenKind};
 
-// the name is padded where it is printed, which a text is and a `Display` of its own is not
-fn kind_name(kind: TokenKind) -> &'static str {
-    match kind {
-        TokenKind::Open(_) => "open",
-        TokenKind::Close(_) => "close",
-        TokenKind::Symbol => "symbol",
-        TokenKind::Integer(_) => "integer",
-        TokenKind::Keyword(_) => "keyword",
-        TokenKind::Name => "name",
+// What kind of token it is, in one word.
+#[derive(Clone, Copy)]
+struct Kind(TokenKind);
+
+impl fmt::Display for Kind {
+    fn fmt<W: fmt::Write>(&self, f: &mut fmt::Formatter<W>) -> fmt::Result {
+        f.pad(match self.0 {
+            TokenKind::Open(_) => "open",
+            TokenKind::Close(_) => "close",
+            TokenKind::Symbol => "symbol",
+            TokenKind::Integer(_) => "integer",
+            TokenKind::Keyword(_) => "keyword",
+            TokenKind::Name => "name",
+        })
     }
 }
 
 fn print_token(rt: &HostRuntime, token: Token<'_>) -> io::Result<()> {
     let Token { kind, place, bytes } = token;
-    let kind = kind_name(kind);
+    let kind = Kind(kind);
     let word = shown(rt.alloc(), bytes)?;
     println!(rt; "{place:>5} {kind:<7} {word}")
 }

@@ -86,10 +86,7 @@ impl Trial for Scripts {
                 })
             }
             Err(refused) => Ok(Found {
-                answer: Err(Refused {
-                    number: refused.refusal.number(),
-                    place: refused.place,
-                }),
+                answer: Err(Refused::from(refused)),
                 listing: String::new(heap),
                 complaint: complaint(is_unused(&nodes)),
             }),

@@ -21,10 +21,7 @@ impl Trial for Tokens {
                 complaint: None,
             }),
             Err(refused) => Ok(Found {
-                answer: Err(Refused {
-                    number: refused.refusal.number(),
-                    place: refused.place,
-                }),
+                answer: Err(Refused::from(refused)),
                 listing: String::new(heap),
                 complaint: None,
             }),
