@@ -1,38 +1,59 @@
 // Which brackets are open.
-ghost use Rattle.std.specs.Prelude.{◌≡◌};
+ghost use Rattle.std.specs.Prelude.{◌≡◌, [], length};
 ghost use Rattle.stack.specs.Items.{tops, room_of};
 ghost use Rattle.text.specs.Scans.{nesting, Nests};
 
+use super::limits::OPEN;
 use super::{Bracket, Refusal, TokenKind};
 use stack::Stack;
 
-fn open_bracket(opened: &mut Stack<'_, Bracket>, shape: Bracket) -> Result<(), Refusal>
-    requires { room_of opened.old ≡ 64 }
-    ensures nests { Nests (nesting (TokenKind.Open shape) (tops opened.old)) result (tops opened.new) }
-    ensures room { room_of opened.new ≡ room_of opened.old }
-{
-    opened.push(shape).map_err(|_| Refusal::Limit)
+// The open brackets, the newest on top, with room for as many as may be open at one time.
+#[derive(Drop)]
+pub(crate) struct OpenBrackets<'a> {
+    shapes: Stack<'a, Bracket>,
+    ghost room: { room_of shapes ≡ 64 },
 }
 
-fn close_bracket(opened: &mut Stack<'_, Bracket>, shape: Bracket) -> Result<(), Refusal>
-    ensures nests { Nests (nesting (TokenKind.Close shape) (tops opened.old)) result (tops opened.new) }
-    ensures room { room_of opened.new ≡ room_of opened.old }
-{
-    match opened.pop() {
-        Some(newest) if newest == shape => Ok(()),
-        _ => Err(Refusal::Bracket),
+impl<'a> OpenBrackets<'a> {
+    // No bracket is open.
+    pub(crate) fn new(room: &'a mut [Bracket; OPEN]) -> OpenBrackets<'a>
+        ensures { tops result.shapes ≡ [] }
+    {
+        OpenBrackets {
+            shapes: Stack::new(room),
+        }
     }
-}
 
-// The brackets open after a token of this kind.
-pub(crate) fn nest(opened: &mut Stack<'_, Bracket>, kind: TokenKind) -> Result<(), Refusal>
-    requires { room_of opened.old ≡ 64 }
-    ensures nests { Nests (nesting kind (tops opened.old)) result (tops opened.new) }
-    ensures room { room_of opened.new ≡ room_of opened.old }
-{
-    match kind {
-        TokenKind::Open(shape) => open_bracket(opened, shape),
-        TokenKind::Close(shape) => close_bracket(opened, shape),
-        _ => Ok(()),
+    // How many are open.
+    pub(crate) fn len(&self) -> usize
+        ensures { result ≡ length (tops self.now.shapes) }
+    {
+        self.shapes.len()
+    }
+
+    fn open(&mut self, shape: Bracket) -> Result<(), Refusal>
+        ensures { Nests (nesting (TokenKind.Open shape) (tops self.old.shapes)) result (tops self.new.shapes) }
+    {
+        self.shapes.push(shape).map_err(|_| Refusal::Limit)
+    }
+
+    fn close(&mut self, shape: Bracket) -> Result<(), Refusal>
+        ensures { Nests (nesting (TokenKind.Close shape) (tops self.old.shapes)) result (tops self.new.shapes) }
+    {
+        match self.shapes.pop() {
+            Some(newest) if newest == shape => Ok(()),
+            _ => Err(Refusal::Bracket),
+        }
+    }
+
+    // The brackets open after a token of this kind.
+    pub(crate) fn after(&mut self, kind: TokenKind) -> Result<(), Refusal>
+        ensures { Nests (nesting kind (tops self.old.shapes)) result (tops self.new.shapes) }
+    {
+        match kind {
+            TokenKind::Open(shape) => self.open(shape),
+            TokenKind::Close(shape) => self.close(shape),
+            _ => Ok(()),
+        }
     }
 }

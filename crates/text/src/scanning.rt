@@ -5,21 +5,22 @@ ghost use Rattle.text.specs.Scans.{scan as scanned, balanced, counted};
 ghost use Rattle.text.specs.Tokens.{lexed_from};
 
 use super::limits::{OPEN, TEXT};
-use super::nesting::nest;
+use super::nesting::OpenBrackets;
 use super::{Bracket, Reader, Refusal, Refused};
-use stack::Stack;
 
 // The tokens and brackets of a text of any length.
 fn pass(text: &[u8]) -> Result<usize, Refused>
     ensures { result ≡ counted (balanced (length text.now) [] (lexed_from text.now 0)) }
 {
     let mut room = [Bracket::Round; OPEN];
-    let mut opened = Stack::new(&mut room);
+    let mut opened = OpenBrackets::new(&mut room);
     let mut reader = Reader::new(text);
     let mut count = 0;
     while let Some(token) = reader.next()? {
         let place = token.place;
-        nest(&mut opened, token.kind).map_err(|refusal| Refused { refusal, place })?;
+        opened
+            .after(token.kind)
+            .map_err(|refusal| Refused { refusal, place })?;
         count += 1;
     }
     if opened.len() > 0 {
