@@ -6,10 +6,14 @@ use Rattle.std.proofs.lemmas.Bool.Decides.{nat_tests}
 use Rattle.std.proofs.lemmas.List.{drop-append-le, take-append-drop, take_at, take-take, get_or-drop, get_or-reverse}
 use Rattle.std.proofs.lemmas.List.Folds.{prefix_len-append}
 use Rattle.std.proofs.lemmas.List.Sums.{prefix_len_is, prefix_len_passes, suffix_len-le-length}
-use Rattle.explain.specs.Lines.{leading_line, line_start, lead_of, around_line}
+use Rattle.explain.specs.Lines.{newline_since, leading_line, line_start, lead_of, around_line}
 
 abbrev other : ℕ → Bool
 other b = not (b == 10)
+
+-- no more bytes follow the last newline than there are
+pub since_within : (s : List ℕ) → newline_since s ≤ length s
+since_within = suffix_len-le-length other
 
 -- none of the bytes since the last newline is one
 since : (s : List ℕ) (j : ℕ) → j < suffix_len other s → other (get_or (drop (length s - suffix_len other s) s) j 0) ≡ true

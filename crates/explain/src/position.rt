@@ -12,6 +12,7 @@ pub struct Position {
     pub column: usize,
 }
 
+#[tactic(auto, using(crate::proofs::LeadLaws::since_within))]
 pub fn position_of(text: &[u8], place: usize) -> Position
     ensures line { result.line ≡ line_of text.now place }
     ensures column { result.column ≡ column_of text.now place }
