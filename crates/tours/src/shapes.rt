@@ -47,6 +47,7 @@ pub fn leaning<S: CellStore>(store: &mut S, cells: u32) -> Result<Value, WalkRef
 }
 
 // A tree of so many levels, with two subtrees in each cell but those of the last level.
+// It asks that `copy` may be called: no type says so of a closure that is passed in.
 pub fn twos<S: CellStore, C: Fn(&mut S, Value) -> Result<Value, WalkRefusal>>(
     store: &mut S,
     copy: &C,
@@ -64,6 +65,7 @@ pub fn twos<S: CellStore, C: Fn(&mut S, Value) -> Result<Value, WalkRefusal>>(
 }
 
 // A tree of so many levels, with six subtrees in each cell but those of the last level.
+// It asks that `copy` may be called: no type says so of a closure that is passed in.
 pub fn sixes<S: CellStore, C: Fn(&mut S, Value) -> Result<Value, WalkRefusal>>(
     store: &mut S,
     copy: &C,

@@ -54,6 +54,7 @@ impl fmt::Display for Tour {
 }
 
 // Sizes a value, copies it, and drops both.
+// It asks that `copy` may be called: no type says so of a closure that is passed in.
 fn walk<S: CellStore, C: Fn(&mut S, Value) -> Result<Value, WalkRefusal>>(
     store: &mut S,
     copy: &C,
@@ -104,6 +105,7 @@ fn clear<S: CellStore>(store: &mut S) {
 
 // Walks one value of each shape; the store is empty before and after each. All is told if that is wanted, else no comb,
 // and not what was live after a copy.
+// It asks that `copy` may be called: no type says so of a closure that is passed in.
 pub fn walk_all<S: CellStore, C: Fn(&mut S, Value) -> Result<Value, WalkRefusal>>(
     store: &mut S,
     copy: &C,
