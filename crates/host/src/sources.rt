@@ -10,7 +10,7 @@ use std::{fs, io};
 // A script of more bytes is refused.
 const TEXT: usize = 65535;
 
-// The file, if there is one.
+// The file, if there is one. A guard takes out the one error that is no failure, so the others go on by an arm and by no `?`.
 fn if_there<F>(opened: io::Result<F>) -> io::Result<Option<F>>
     ensures there { IfOk opened (λ file. result ≡ Ok (Some file)) }
     ensures missing { IfErr opened (λ e. error_kind e ≡ ErrorKind.NotFound → result ≡ Ok None) }
