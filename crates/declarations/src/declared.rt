@@ -14,7 +14,7 @@ fn print_constructor(
 ) -> io::Result<()> {
     let name = shown(rt.alloc(), part(script.text(), constructor.name))?;
     let mut fields = String::new(rt.alloc());
-    let types = Types::of(rt.alloc(), script);
+    let types = Types::new(rt.alloc(), script);
     types.push_all(
         &mut fields,
         constructor.first as usize,
@@ -53,7 +53,7 @@ fn print_function(rt: &HostRuntime, script: &Script<'_>, function: &Function) ->
     let tables = script.tables();
     let mut words = String::new(rt.alloc());
     match definition_at(tables, function.annotation) {
-        Definition::Annotation(annotation) => Types::of(rt.alloc(), script).push(
+        Definition::Annotation(annotation) => Types::new(rt.alloc(), script).push(
             &mut words,
             annotation.root as usize,
             DEPTH,

@@ -20,7 +20,7 @@ pub struct Types<'s> {
 }
 
 impl<'s> Types<'s> {
-    pub fn of(heap: Global, script: &'s Script<'_>) -> Types<'s> {
+    pub fn new(heap: Global, script: &'s Script<'_>) -> Types<'s> {
         Types {
             heap,
             text: script.text(),
