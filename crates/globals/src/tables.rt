@@ -3,7 +3,7 @@ ghost use Rattle.std.specs.Prelude.{◌≡◌, min, length, take, slice_index_or
 ghost use Rattle.layout.specs.Tabling.{unused_constructor};
 ghost use Rattle.layout.specs.TypeEncoding.{unused_type};
 
-use layout::{Constructor, Definition, Tables, TypeForm, TypeNode, Word};
+use layout::{Constructor, Definition, Tables, TypeNode};
 
 // A script that was read: its text, and its tables.
 #[derive(Clone, Copy)]
@@ -11,21 +11,6 @@ pub(crate) struct Parsed<'a> {
     pub(crate) text: &'a [u8],
     pub(crate) tables: &'a Tables,
 }
-
-const UNUSED_CONSTRUCTOR: Constructor = Constructor {
-    place: 0,
-    name: Word { place: 0, size: 0 },
-    datatype: 0,
-    first: 0,
-    past: 0,
-    fields: 0,
-};
-
-const UNUSED_TYPE: TypeNode = TypeNode {
-    form: TypeForm::Unused,
-    place: 0,
-    past: 0,
-};
 
 // The definitions in text order.
 pub(crate) fn definitions(tables: &Tables) -> &[Definition]
@@ -42,11 +27,11 @@ pub(crate) fn constructor_at(tables: &Tables, k: usize) -> Constructor
         .constructors
         .get(k)
         .copied()
-        .unwrap_or(UNUSED_CONSTRUCTOR)
+        .unwrap_or(Constructor::UNUSED)
 }
 
 pub(crate) fn type_at(tables: &Tables, k: usize) -> TypeNode
     ensures { result ≡ slice_index_or tables.now.types k unused_type }
 {
-    tables.types.get(k).copied().unwrap_or(UNUSED_TYPE)
+    tables.types.get(k).copied().unwrap_or(TypeNode::UNUSED)
 }

@@ -23,6 +23,18 @@ pub struct Constructor {
     pub fields: u8,
 }
 
+impl Constructor {
+    // an entry that no constructor uses
+    pub const UNUSED: Constructor = Constructor {
+        place: 0,
+        name: Word::UNUSED,
+        datatype: 0,
+        first: 0,
+        past: 0,
+        fields: 0,
+    };
+}
+
 #[derive(Clone, Copy, PartialEq, Eq)]
 pub struct Annotation {
     pub place: u16,

@@ -34,3 +34,12 @@ pub struct Node {
     // the number of the node after the last of its parts
     pub past: u16,
 }
+
+impl Node {
+    // an entry that no node uses
+    pub const UNUSED: Node = Node {
+        form: NodeForm::Unused,
+        place: 0,
+        past: 0,
+    };
+}

@@ -23,3 +23,12 @@ pub struct TypeNode {
     // the number of the entry after the last of its parts
     pub past: u16,
 }
+
+impl TypeNode {
+    // an entry that no type expression uses
+    pub const UNUSED: TypeNode = TypeNode {
+        form: TypeForm::Unused,
+        place: 0,
+        past: 0,
+    };
+}

@@ -4,3 +4,8 @@ pub struct Word {
     pub place: u16,
     pub size: u8,
 }
+
+impl Word {
+    // what stands in an entry that no word uses
+    pub const UNUSED: Word = Word { place: 0, size: 0 };
+}

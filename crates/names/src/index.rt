@@ -27,7 +27,7 @@ impl Index {
     {
         Index {
             heads: [None; 256],
-            names: [Word { place: 0, size: 0 }; 512],
+            names: [Word::UNUSED; 512],
             links: [None; 512],
             count: 0,
         }

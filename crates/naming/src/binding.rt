@@ -83,14 +83,11 @@ pub fn bind_parts(
     }
 }
 
-// What stands past the end of a table of words.
-const UNUSED: Word = Word { place: 0, size: 0 };
-
-// A word of a table.
+// A word of a table; past the end, the unused one.
 fn word_at(words: &[Word], k: usize) -> Word
     ensures { result ≡ slice_index_or words.now k unused_word }
 {
-    words.get(k).copied().unwrap_or(UNUSED)
+    words.get(k).copied().unwrap_or(Word::UNUSED)
 }
 
 // The parameters of a define, from an entry of the table of parameters up to another, with the types from a row on.

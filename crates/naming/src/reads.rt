@@ -8,23 +8,16 @@ ghost use Rattle.script_refusals.specs.declared.refusal.Refusal.TheVariants.{Mis
 
 use entries::put;
 use globals::refused;
-use layout::{Node, NodeForm};
+use layout::Node;
 use program::{Code, Op};
 use script_refusals::{Refusal, Refused};
 use type_rows::ValueType;
 
-// What stands past the end of the nodes.
-const UNUSED: Node = Node {
-    form: NodeForm::Unused,
-    place: 0,
-    past: 0,
-};
-
-// The node with a number.
+// The node with a number; past the end, the unused one.
 pub fn node_at(nodes: &[Node], i: usize) -> Node
     ensures { result ≡ node_found nodes.now i }
 {
-    nodes.get(i).copied().unwrap_or(UNUSED)
+    nodes.get(i).copied().unwrap_or(Node::UNUSED)
 }
 
 // The number of the node after the last part of the one with a number.

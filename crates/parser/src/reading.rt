@@ -6,11 +6,10 @@ ghost use Rattle.layout.specs.Tabling.{tables_of};
 ghost use Rattle.parser.specs.Recording.{Answers, Lawful};
 
 use super::definitions::definitions;
-use super::script::{Script, UNUSED};
+use super::script::Script;
 use forms::Source;
 use layout::{
-    Constructor, Counts, Definition, Function, Functions, NODES, Node, Tables, TypeForm, TypeNode,
-    Word,
+    Constructor, Counts, Definition, Function, Functions, NODES, Node, Tables, TypeNode, Word,
 };
 use symbols::number_symbols;
 use text::Refused;
@@ -19,29 +18,15 @@ use text::Refused;
 fn clear(nodes: &mut [Node])
     ensures { nodes.new ≡ replicate (length nodes.old) unused }
 {
-    nodes.fill(UNUSED);
+    nodes.fill(Node::UNUSED);
 }
 
 // The tables of an empty script.
 fn blank() -> Tables
     ensures { result ≡ tables_of [] }
 {
-    let name = Word { place: 0, size: 0 };
-    let constructor = Constructor {
-        place: 0,
-        name,
-        datatype: 0,
-        first: 0,
-        past: 0,
-        fields: 0,
-    };
-    let node = TypeNode {
-        form: TypeForm::Unused,
-        place: 0,
-        past: 0,
-    };
     let function = Function {
-        name,
+        name: Word::UNUSED,
         annotation: None,
         define: None,
     };
@@ -56,9 +41,9 @@ fn blank() -> Tables
             parameters: 0,
         },
         definitions: [Definition::Unused; 832],
-        constructors: [constructor; 256],
-        parameters: [name; 1536],
-        types: [node; 512],
+        constructors: [Constructor::UNUSED; 256],
+        parameters: [Word::UNUSED; 1536],
+        types: [TypeNode::UNUSED; 512],
         functions: Functions {
             count: 0,
             entries: [function; 768],
@@ -70,7 +55,7 @@ fn blank() -> Tables
 fn first_nodes(nodes: &[Node]) -> [Node; 4096]
     ensures { take (min (length nodes.now) 4096) result ≡ take 4096 nodes.now }
 {
-    let mut copy = [UNUSED; 4096];
+    let mut copy = [Node::UNUSED; 4096];
     let count = nodes.len().min(NODES);
     copy[..count].copy_from_slice(&nodes[..count]);
     copy

@@ -3,14 +3,7 @@ ghost use Rattle.std.specs.Prelude.{◌≡◌, ◌↔◌, ◌≤◌, ◌-◌, Is
 ghost use Rattle.layout.specs.Encoding.{unused};
 ghost use Rattle.parser.specs.Recording.{used, left};
 
-use layout::{NODES, Node, NodeForm, Tables};
-
-// An entry of a node list that no node uses.
-pub(crate) const UNUSED: Node = Node {
-    form: NodeForm::Unused,
-    place: 0,
-    past: 0,
-};
+use layout::{NODES, Node, Tables};
 
 // Only `read` makes one, so its parts belong together: the text, how many nodes were lent, the nodes that are used, and the tables. The
 // node list itself stays the caller's; a script can tell whether a list holds what reading left.
@@ -80,5 +73,5 @@ fn starts_with(nodes: &[Node], first: &[Node]) -> bool
 fn is_unused(nodes: &[Node]) -> bool
     ensures { IsTrue result ↔ (nodes.now ≡ replicate (length nodes.now) unused) }
 {
-    nodes.iter().all(|node| *node == UNUSED)
+    nodes.iter().all(|node| *node == Node::UNUSED)
 }

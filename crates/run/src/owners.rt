@@ -13,7 +13,7 @@ fn owner_of(script: &Compiled, number: usize) -> Owner
 {
     let none = Owner {
         place: 0,
-        name: Word { place: 0, size: 0 },
+        name: Word::UNUSED,
     };
     script.owners.get(number).copied().unwrap_or(none)
 }
@@ -22,7 +22,7 @@ fn owner_of(script: &Compiled, number: usize) -> Owner
 pub fn owner_at(script: &Compiled, place: u16) -> Word
     ensures { (P : Program) → Lays script.now P → result ≡ word (owner_found P place) }
 {
-    let mut name = Word { place: 0, size: 0 };
+    let mut name = Word::UNUSED;
     // nothing bounds the count by the table, so the owners are looked up by number and are no slice
     for i in 0..script.owner_count as usize {
         let owner = owner_of(script, i);

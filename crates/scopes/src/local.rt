@@ -12,7 +12,7 @@ pub struct Local {
 
 // What is read where there is no local.
 pub(crate) const NO_LOCAL: Local = Local {
-    name: Word { place: 0, size: 0 },
+    name: Word::UNUSED,
     kind: ValueType::Unit,
     height: 0,
 };

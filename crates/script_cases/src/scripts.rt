@@ -8,12 +8,6 @@ use std::alloc::{AllocError, Global};
 // How many entries a node list has where a case does not say.
 const LENT: usize = 4096;
 
-const UNUSED: Node = Node {
-    form: NodeForm::Unused,
-    place: 0,
-    past: 0,
-};
-
 // What stands in the node list before a case.
 const USED: Node = Node {
     form: NodeForm::If,
@@ -41,7 +35,7 @@ impl Scripts {
 }
 
 fn is_unused(nodes: &[Node]) -> bool {
-    nodes.iter().all(|node| *node == UNUSED)
+    nodes.iter().all(|node| *node == Node::UNUSED)
 }
 
 // Whether the script knows the node list again, and not with its first entry changed.

@@ -28,7 +28,7 @@ impl Index {
     {
         Index {
             heads: [None; 4096],
-            literals: [Word { place: 0, size: 0 }; 4096],
+            literals: [Word::UNUSED; 4096],
             sums: [0; 4096],
             links: [None; 4096],
             count: 0,
