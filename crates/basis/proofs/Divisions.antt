@@ -1,13 +1,17 @@
 -- The laws of the quotients and the remainders.
-use Rattle.std.proofs.Common.{◌≡◌, ℕ, zero, suc, ◌+◌, ◌-◌, ◌*◌, ◌/◌, ◌%◌, ◌<◌, ℤ, pos, negsuc, ◌+ℤ◌, ◌*ℤ◌, neg_ℤ, nat_abs, ◌≤ℤ◌, Ok, sym, refl, ap, ◌∙◌, zero-mul, div-le_self, div-one, arith, w32, SFits, to_z, of_z}
+use Rattle.std.proofs.Common.{◌≡◌, ℕ, zero, suc, ◌+◌, ◌-◌, ◌*◌, ◌/◌, ◌%◌, ◌<◌, Bool, true, false, cond, eqb, ℤ, pos, negsuc, ◌+ℤ◌, ◌*ℤ◌, neg_ℤ, nat_abs, ◌≤ℤ◌, Ok, Err, Result, sym, refl, ap, subst, ◌∙◌, zero-mul, div-le_self, div-one, arith, w32, SFits, to_z, of_z}
 use native.Mathlib.Nat.{div-lt_self, mod-le}
 use lib.IntN.{neg_ℤ-+ℤ}
 use lib.Signed.{mag, quot_z, rem_z}
 use mir.ValLaws.{of_z_fits}
+use Rattle.std.proofs.lemmas.Bool.{eqb-true, eqb-false}
 use Rattle.std.proofs.lemmas.Nat.{div-add-mod', mod_below}
-use Rattle.std.proofs.lemmas.Int.{ints, of_z-to_z, int_wrap_fits}
+use Rattle.std.proofs.lemmas.Int.{ints, of_z-to_z, to_z-of_z, int_wrap_fits}
 use Rattle.std.specs.Int.{int_wrap}
-use Rattle.basis.specs.ArithmeticLaws.{Divides, Overflows, QuotientLaw, RemainderLaw, UnsignedQuotientLaw, UnsignedRemainderLaw}
+use Rattle.basis.specs.Arithmetic.{divided, unsigned_quotient, unsigned_remainder_of}
+use Rattle.basis.specs.ArithmeticLaws.{Divides, Overflows, Refuses, QuotientLaw, RemainderLaw, UnsignedQuotientLaw, UnsignedRemainderLaw}
+use Rattle.basis.specs.declared.fault.ArithmeticFault.{ArithmeticFault}
+use Rattle.basis.specs.declared.fault.ArithmeticFault.TheVariants.{ZeroDivisor}
 
 -- negative products and remainders
 minus_times : (n d : ℕ) → neg_ℤ (pos n) *ℤ pos d ≡ neg_ℤ (pos (n * d))
@@ -89,18 +93,27 @@ module _ (a b : ℤ) (f : SFits w32 a) (g : SFits w32 b) (h : of_z w32 b ≡ 0 �
   pub remainder_law : (r : ℤ) → r ≡ rem_z a b → RemainderLaw a b (Ok r)
   remainder_law r e = (nonzero, (quot_z a b, rw e (divides a b nonzero)))
 
-  pub unsigned_quotient_law : (q : ℤ) → q ≡ to_z w32 (of_z w32 a / of_z w32 b) → UnsignedQuotientLaw a b (Ok q)
-  unsigned_quotient_law q e =
+-- what holds where the divisor is 0 and where it is not
+by_divisor : (b answer : ℤ) (Law : Result ℤ ArithmeticFault → Type 0) → SFits w32 b → (Refuses b ZeroDivisor → Law (Err ZeroDivisor)) → ((of_z w32 b ≡ 0 → ⊥) → Law (Ok answer)) → Law (divided b answer)
+by_divisor b answer Law g refused answered = go (eqb (of_z w32 b) 0) refl
+  where
+    go : (t : Bool) → eqb (of_z w32 b) 0 ≡ t → Law (cond t (Err ZeroDivisor) (Ok answer))
+    go true e = refused (sym (to_z-of_z w32 b g) ∙ ap (to_z w32) (eqb-true (of_z w32 b) 0 e), refl)
+    go false e = answered (eqb-false (of_z w32 b) 0 e)
+
+module _ (a b : ℤ) (r : Result ℤ ArithmeticFault) (f : SFits w32 a) (g : SFits w32 b) where
+  pub unsigned_quotient_law : r ≡ unsigned_quotient a b → UnsignedQuotientLaw a b r
+  unsigned_quotient_law e = rw e (by_divisor b _ (UnsignedQuotientLaw a b) g (λ z. z) (λ h.
       let m = of_z w32 a in
       let n = of_z w32 b in
       let small : m / n < 4294967296 = omega (arith, div-le_self m n, (of_z_fits w32 a f).fits) in
-      let same : of_z w32 q ≡ m / n = ap (of_z w32) e ∙ of_z-to_z w32 (m / n) small in
-      (m % n, mod_below m n (omega (arith, h)), rw same (sym (div-add-mod' m n)))
+      let same : of_z w32 (to_z w32 (m / n)) ≡ m / n = of_z-to_z w32 (m / n) small in
+      (m % n, mod_below m n (omega (arith, h)), sym (div-add-mod' m n) ∙ ap (λ q. q * n + m % n) (sym same))))
 
-  pub unsigned_remainder_law : (r : ℤ) → r ≡ to_z w32 (of_z w32 a % of_z w32 b) → UnsignedRemainderLaw a b (Ok r)
-  unsigned_remainder_law r e =
+  pub unsigned_remainder_law : r ≡ unsigned_remainder_of a b → UnsignedRemainderLaw a b r
+  unsigned_remainder_law e = rw e (by_divisor b _ (UnsignedRemainderLaw a b) g (λ z. z) (λ h.
       let m = of_z w32 a in
       let n = of_z w32 b in
       let small : m % n < 4294967296 = omega (arith, mod-le m n, (of_z_fits w32 a f).fits) in
-      let same : of_z w32 r ≡ m % n = ap (of_z w32) e ∙ of_z-to_z w32 (m % n) small in
-      (m / n, rw same (mod_below m n (omega (arith, h))), rw same (sym (div-add-mod' m n)))
+      let same : of_z w32 (to_z w32 (m % n)) ≡ m % n = of_z-to_z w32 (m % n) small in
+      (m / n, subst (λ k. k < n) (sym same) (mod_below m n (omega (arith, h))), sym (div-add-mod' m n) ∙ ap (λ k. m / n * n + k) (sym same))))

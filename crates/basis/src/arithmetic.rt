@@ -6,9 +6,6 @@ ghost use Rattle.basis.specs.Arithmetic.{sum, difference, product, negation, quo
 
 use super::ArithmeticFault;
 
-// An int has so many bits; it is shifted by less than that.
-const PLACES: u32 = 32;
-
 pub fn add(a: i32, b: i32) -> i32
     ensures value { result ≡ sum a b }
     ensures law { Wraps (a +ℤ b) result }
@@ -37,6 +34,7 @@ pub fn negate(a: i32) -> i32
     a.wrapping_neg()
 }
 
+// A test of the divisor, here and in `remainder`: `checked_div` and `checked_rem` have no answer at the least int by -1, either.
 pub fn divide(a: i32, b: i32) -> Result<i32, ArithmeticFault>
     ensures value { result ≡ quotient a b }
     ensures law { QuotientLaw a b result }
@@ -63,24 +61,20 @@ pub fn unsigned_divide(a: i32, b: i32) -> Result<i32, ArithmeticFault>
     ensures value { result ≡ unsigned_quotient a b }
     ensures law { UnsignedQuotientLaw a b result }
 {
-    let (a, b) = (a.cast_unsigned(), b.cast_unsigned());
-    if b == 0 {
-        Err(ArithmeticFault::ZeroDivisor)
-    } else {
-        Ok((a / b).cast_signed())
-    }
+    a.cast_unsigned()
+        .checked_div(b.cast_unsigned())
+        .map(|n| n.cast_signed())
+        .ok_or(ArithmeticFault::ZeroDivisor)
 }
 
 pub fn unsigned_remainder(a: i32, b: i32) -> Result<i32, ArithmeticFault>
     ensures value { result ≡ unsigned_remainder_of a b }
     ensures law { UnsignedRemainderLaw a b result }
 {
-    let (a, b) = (a.cast_unsigned(), b.cast_unsigned());
-    if b == 0 {
-        Err(ArithmeticFault::ZeroDivisor)
-    } else {
-        Ok((a % b).cast_signed())
-    }
+    a.cast_unsigned()
+        .checked_rem(b.cast_unsigned())
+        .map(|n| n.cast_signed())
+        .ok_or(ArithmeticFault::ZeroDivisor)
 }
 
 pub fn bit_and(a: i32, b: i32) -> i32
@@ -112,22 +106,14 @@ pub fn shift_left(a: i32, amount: i32) -> Result<i32, ArithmeticFault>
     ensures value { result ≡ left_shift a amount }
     ensures law { LeftShiftLaw a amount result }
 {
-    let places = amount.cast_unsigned();
-    if places < PLACES {
-        Ok(a << places)
-    } else {
-        Err(ArithmeticFault::BadShift)
-    }
+    a.checked_shl(amount.cast_unsigned())
+        .ok_or(ArithmeticFault::BadShift)
 }
 
 pub fn shift_right(a: i32, amount: i32) -> Result<i32, ArithmeticFault>
     ensures value { result ≡ right_shift a amount }
     ensures law { RightShiftLaw a amount result }
 {
-    let places = amount.cast_unsigned();
-    if places < PLACES {
-        Ok(a >> places)
-    } else {
-        Err(ArithmeticFault::BadShift)
-    }
+    a.checked_shr(amount.cast_unsigned())
+        .ok_or(ArithmeticFault::BadShift)
 }

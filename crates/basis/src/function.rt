@@ -40,6 +40,9 @@ pub enum Basis {
 }
 
 impl Basis {
+    // How many there are: the functions of a script are numbered from here on.
+    pub const COUNT: u32 = 33;
+
     // A method and no conversion: by the project's rule the enum's definition shows the numbers, and a contract gives them.
     pub fn number(self) -> u32
         ensures value { result ≡ number_of self }

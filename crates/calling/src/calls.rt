@@ -23,9 +23,6 @@ use cells::values::Value;
 use machine::{Frame, Halt, Held, Machine, Slot, function_at, unprinted};
 use rules::FaultKind;
 
-// The functions of the basis come first.
-const BASIS: u32 = 33;
-
 // How many arguments lie on the slots for a function of the basis.
 // No function of the basis takes more than two, so of more none is counted.
 fn count_of(held: Held) -> usize
@@ -65,7 +62,7 @@ pub fn call_bare(
 {
     match Basis::try_from(function) {
         Ok(basis) => conclude(machine, out, basis, 0, apply_none(basis)),
-        Err(_) => unprinted(enter_body(machine, at, function as usize - BASIS as usize)),
+        Err(_) => unprinted(enter_body(machine, at, function as usize - Basis::COUNT as usize)),
     }
 }
 
@@ -93,7 +90,7 @@ pub fn call(
         }
         Err(_) => {
             machine.slots.push(Some(last))?;
-            unprinted(enter_body(machine, at, function as usize - BASIS as usize))
+            unprinted(enter_body(machine, at, function as usize - Basis::COUNT as usize))
         }
     }
 }

@@ -16,14 +16,14 @@ use super::global::Global;
 use super::refusing::refused;
 use super::tables::{Parsed, constructor_at, definitions};
 use super::variant::{NO_VARIANT, Variant};
-use basis::find;
+use basis::{Basis, find};
 use entries::put;
 use layout::{Datatype, Define, Definition, Val, Word};
 use names::{Index, part};
 use script_refusals::{Refusal, Refused};
 
 // The number of the first define among the functions: those of the basis come first.
-pub(crate) const FIRST_DEFINE: u16 = 33;
+pub(crate) const FIRST_DEFINE: u16 = Basis::COUNT as u16;
 
 // Whether a tally has a name.
 fn is_among(index: &Index, text: &[u8], name: &[u8]) -> bool

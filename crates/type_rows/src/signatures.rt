@@ -15,9 +15,6 @@ const FIRST: u16 = 512;
 
 const EACH: u16 = 4;
 
-// How many functions the basis has.
-const FUNCTIONS: u32 = 33;
-
 impl From<BasisType> for Shape {
     ghost from_gives = { λ kind shape. shape ≡ basis_shape kind };
 
@@ -99,7 +96,7 @@ impl Rows {
         let mut rows = Rows {
             rows: [NO_ROW; 644],
         };
-        for n in 0..FUNCTIONS {
+        for n in 0..Basis::COUNT {
             if let Ok(basis) = Basis::try_from(n) {
                 rows.sign(basis);
             }
