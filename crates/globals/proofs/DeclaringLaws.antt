@@ -20,7 +20,7 @@ use Rattle.program.specs.Programs.{Name, Bound, basis_count}
 use Rattle.script_refusals.specs.declared.refusal.Refused.{Refused}
 use Rattle.typing.specs.Scripts.{basis_names, bytes_of}
 use Rattle.typing.specs.Verdict.{Verdict, refused, once, once_variants, once_all}
-use Rattle.type_rows.proofs.ScriptRows.{type_some}
+use Rattle.layout.proofs.Standing.{type_some}
 use Rattle.globals.proofs.Constructors.{seen_more}
 use Rattle.globals.proofs.Tallying.{recounted}
 

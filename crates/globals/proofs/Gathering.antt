@@ -14,7 +14,7 @@ use Rattle.layout.specs.declared.tables.Tables.{Tables}
 use Rattle.program.specs.Programs as means
 use Rattle.program.specs.Programs.{Bound, bound_variants}
 use Rattle.script_refusals.specs.declared.refusal.Refused.{Refused}
-use Rattle.type_rows.proofs.ScriptRows.{type_some}
+use Rattle.layout.proofs.Standing.{type_some}
 use Rattle.typing.specs.Verdict.{refused}
 
 few_before : (c : Counts) (d : tree.Definition) → Few (after c d) → Few c

@@ -20,7 +20,8 @@ use Rattle.layout.proofs.InText.{NamesIn, TypeIn, TypesIn, ConstructorsIn, Defin
 use Rattle.layout.proofs.Lists.{Has, has_first, has_others, has_front, has_back, has_start}
 use Rattle.layout.proofs.ScriptStanding.{length_constructors}
 use Rattle.type_rows.specs.TypeExprs.{inner, inners, field_types, types_listed, expr_at}
-use Rattle.type_rows.proofs.ScriptRows.{length_inner, length_inners, type_some}
+use Rattle.layout.proofs.Standing.{type_some}
+use Rattle.type_rows.proofs.ScriptRows.{length_inner, length_inners}
 
 -- Definitions.
 module _ (text : List ℕ) (tables : Tables) where

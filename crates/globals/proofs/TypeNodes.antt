@@ -9,7 +9,8 @@ use Rattle.layout.specs.declared.type_node.TypeForm.{TypeForm}
 use Rattle.layout.specs.declared.type_node.TypeNode.{TypeNode}
 use Rattle.layout.proofs.Lists.{Has, has_first, has_others, has_front, has_back}
 use Rattle.type_rows.specs.TypeExprs.{inner, inners, types_listed, no_type, expr_at}
-use Rattle.type_rows.proofs.ScriptRows.{order_script, inner_first, length_inner, type_some, has_size}
+use Rattle.layout.proofs.Standing.{type_some}
+use Rattle.type_rows.proofs.ScriptRows.{order_script, inner_first, length_inner, has_size}
 
 -- a node's past is the number after the last of its parts
 pub past_lies : {text : List ℕ} {node : TypeNode} {k : ℕ} {f : TypeForm} {t : TypeExpr} → TypeNodeLies text node k f t → node.past ≡ k + type_count t

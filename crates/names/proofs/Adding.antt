@@ -1,5 +1,5 @@
 -- One name more: its bucket's chain begins with it, and the other chains are as they were.
-use Rattle.std.proofs.Common.{◌≡◌, ℕ, ◌+◌, ◌<◌, ◌⊎◌, List, length, get_or, set, Some, None, Option, inl, inr, sym, refl, ap, ◌∙◌, arith}
+use Rattle.std.proofs.Common.{◌≡◌, ℕ, ◌+◌, ◌<◌, ◌⊎◌, List, length, get_or, set, Some, None, inl, inr, sym, ap, ◌∙◌, arith}
 use Rattle.std.proofs.lemmas.Bool.{cases_eq}
 use Rattle.std.proofs.lemmas.List.{get_or-set_same, get_or-set_other}
 use Rattle.layout.specs.Tabling.{unused_word}
@@ -8,10 +8,6 @@ use Rattle.names.specs.Indexing.{IsIndex, last_in, bucket_at}
 use Rattle.names.specs.Parts.{part_of, bucket_of}
 use Rattle.names.specs.declared.index.Index.{Index}
 use Rattle.names.proofs.Chains.{same_last, last_here, last_elsewhere}
-
-pub none_by : {X : Type 0} (o : Option X) → ((x : X) → o ≡ Some x → ⊥) → o ≡ None
-none_by None h = refl
-none_by (Some x) h = absurd (h x refl)
 
 module _ (text : List ℕ) (index new : Index) (word : Word) (h : ℕ) (bucket : h ≡ bucket_of (part_of text word)) (names : new.names ≡ set index.names index.count word) (room : index.count < length index.names) where
   same_bucket : (j : ℕ) → j < index.count → bucket_at text index j ≡ bucket_at text new j

@@ -4,10 +4,11 @@ use Rattle.std.proofs.lemmas.Bool.{cases_eq}
 use Rattle.std.proofs.lemmas.List.{get_or-set_same, get_or-set_other}
 use Rattle.layout.specs.Tabling.{unused_word}
 use Rattle.layout.specs.declared.word.Word.{Word}
-use Rattle.symbols.specs.Indexing.{IsIndex, Adds, last_in, word_in, bytes_in, bucket_in}
+use Rattle.names.specs.Indexing.{last_in}
+use Rattle.symbols.specs.Indexing.{IsIndex, Adds, word_in, bytes_in, bucket_in}
 use Rattle.symbols.specs.Parts.{quoted, sum_of, bucket_of}
 use Rattle.symbols.specs.declared.index.Index.{Index}
-use Rattle.symbols.proofs.Chains.{same_last, last_here, last_elsewhere}
+use Rattle.names.proofs.Chains.{same_last, last_here, last_elsewhere}
 
 module _ (text : List ℕ) (index new : Index) (word : Word) (sum h : ℕ) (summed : sum ≡ sum_of (quoted text word)) (bucket : h ≡ sum % 4096) (words : new.literals ≡ set index.literals index.count word) (room : index.count < length index.literals)
     (count : new.count ≡ index.count + 1) where

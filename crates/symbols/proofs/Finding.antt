@@ -1,18 +1,15 @@
 -- The walk along a chain: what is known of the parts behind it.
-use Rattle.std.proofs.Common.{◌≡◌, ℕ, ◌<◌, ◌≤◌, ◌⊎◌, List, get_or, Some, None, Option, inl, inr, sym, refl, ap, ◌∙◌, arith}
+use Rattle.std.proofs.Common.{◌≡◌, ℕ, ◌<◌, ◌≤◌, ◌⊎◌, List, get_or, Some, None, inl, inr, sym, ap, ◌∙◌, arith}
 use Rattle.std.proofs.lemmas.Bool.{cases_eq, cases_lt}
-use Rattle.symbols.specs.Indexing.{IsIndex, last_in, bytes_in, bucket_in}
+use Rattle.names.specs.Indexing.{last_in}
+use Rattle.symbols.specs.Indexing.{IsIndex, bytes_in, bucket_in}
 use Rattle.symbols.specs.Parts.{sum_of, bucket_of}
 use Rattle.symbols.specs.declared.index.Index.{Index}
-use Rattle.symbols.proofs.Chains.{is_last, none_last}
+use Rattle.names.proofs.Chains.{is_last, none_last}
 
 -- no part from a number on has these bytes
 abbrev pub Others : List ℕ → Index → List ℕ → ℕ → Type 0
 Others text index bytes below = (k : ℕ) → below ≤ k → k < index.count → bytes_in text index k ≡ bytes → ⊥
-
-pub none_by : {X : Type 0} (o : Option X) → ((x : X) → o ≡ Some x → ⊥) → o ≡ None
-none_by None h = refl
-none_by (Some x) h = absurd (h x refl)
 
 module _ (text : List ℕ) (index : Index) (bytes : List ℕ) where
   -- the chain's next part has other bytes

@@ -1,4 +1,3 @@
-pub mod Chains
 pub mod Finding
 pub mod Adding
 pub mod Firsts

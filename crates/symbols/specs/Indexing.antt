@@ -1,9 +1,10 @@
 -- What an index of literals holds.
-use Rattle.std.specs.Prelude.{◌≡◌, ℕ, zero, suc, ◌+◌, ◌<◌, ◌≤◌, cond, List, [], ◌∷◌, Some, None, Option, ◌==◌, slice_index, slice_index_or}
+use Rattle.std.specs.Prelude.{◌≡◌, ℕ, ◌+◌, ◌<◌, ◌≤◌, cond, List, [], ◌∷◌, Some, None, Option, slice_index, slice_index_or}
 use Rattle.std.specs.Str.{bytes_eq}
 use Rattle.layout.specs.Literals.{Literal}
 use Rattle.layout.specs.Tabling.{unused_word}
 use Rattle.layout.specs.declared.word.Word.{Word}
+use Rattle.names.specs.Indexing.{last_in}
 use Rattle.symbols.specs.Parts.{quoted, sum_of, bucket_of}
 use Rattle.symbols.specs.declared.index.Index.{Index}
 
@@ -16,11 +17,6 @@ bytes_in text index k = quoted text (word_in index k)
 
 abbrev pub bucket_in : List ℕ → Index → ℕ → ℕ
 bucket_in text index k = bucket_of (bytes_in text index k)
-
--- the last of the first n that lies in a bucket
-abbrev pub last_in : (ℕ → ℕ) → ℕ → ℕ → Option ℕ
-last_in bucket h zero = None
-last_in bucket h (suc n) = cond (bucket n == h) (Some n) (last_in bucket h n)
 
 -- The chains of an index hold its literals, each in its own bucket.
 pub record IsIndex (text : List ℕ) (index : Index) : Type 0 where

@@ -10,6 +10,7 @@ use Rattle.grammar.specs.Limits.{type_count, types_count, types_length}
 use Rattle.grammar.specs.Trees as tree
 use Rattle.grammar.specs.Trees.{TypeExpr, TypeExprs, Constructor, datatype_definition, type_annotation, function_definition, val_binding, Script}
 use Rattle.layout.proofs.Lists.{Has, has_first, has_others, has_front, has_back}
+use Rattle.layout.proofs.Standing.{type_some}
 use Rattle.program.specs.Programs.{Program}
 use Rattle.type_rows.specs.Rows.{row_at, kind_at, TypesLie, no_rows, and_row, FunctionLies, RowsMean}
 use Rattle.type_rows.specs.Shapes.{shapes, shapes_all, kind_of, ty}
@@ -33,14 +34,6 @@ mutual
   pub length_inners : (ts : TypeExprs) → length (inners ts) ≡ types_count ts
   length_inners tree.no_types = refl
   length_inners (tree.and_type t ts) = omega (arith, length-append (inner t) (inners ts), length_inner t, length_inners ts)
-
-pub type_some : (t : TypeExpr) → 0 < type_count t
-type_some (tree.int_type p) = omega arith
-type_some (tree.bool_type p) = omega arith
-type_some (tree.sym_type p) = omega arith
-type_some (tree.unit_type p) = omega arith
-type_some (tree.datatype x) = omega arith
-type_some (tree.function_type_rule p ts t) = omega arith
 
 -- a type expression stands before all that it holds
 pub inner_first : (t : TypeExpr) → (r : List TypeExpr) × (inner t ≡ t ∷ r)

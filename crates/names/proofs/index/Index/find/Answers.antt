@@ -3,7 +3,6 @@ use Rattle.std.proofs.lemmas.Bool.{both_ways}
 use Rattle.std.proofs.lemmas.Slice.Eq.{bytes_eq-Decides}
 use Rattle.layout.specs.Tabling.{unused_word}
 use Rattle.names.specs.Parts.{part_of}
-use Rattle.names.proofs.Adding.{none_by}
 use Rattle.names.proofs.Chains.{is_last}
 use Rattle.names.proofs.Finding.{name_at, missed, ended, next}
 use Rattle.names.proofs.Numbered.{numbered, number_below, numbered_is}
@@ -49,4 +48,4 @@ returns-clause-found c = λ ix k e.
     let inv = c.chain.invariant in
     let long : length s.names ≡ 512 = search rules in
     let few : s.count ≤ 512 = ix.few in
-    ended text s c.args.name.now _ (sym (inv.chain ix) ∙ none_by _ c.in_default.not-Some) (inv.others ix) k (omega arith) (number_below (part_of text) s.names s.count (omega arith) k _ e) (numbered_is (part_of text) s.names s.count (omega arith) k _ unused_word e)
+    ended text s c.args.name.now _ (sym (inv.chain ix) ∙ c.in_default.is) (inv.others ix) k (omega arith) (number_below (part_of text) s.names s.count (omega arith) k _ e) (numbered_is (part_of text) s.names s.count (omega arith) k _ unused_word e)

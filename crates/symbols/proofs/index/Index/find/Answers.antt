@@ -1,6 +1,6 @@
 use Rattle.std.proofs.Common.{◌<◌, ◌≤◌, sym, ◌∙◌, arith}
 use Rattle.std.proofs.lemmas.Bool.{both_ways}
-use Rattle.symbols.proofs.Chains.{is_last}
+use Rattle.names.proofs.Chains.{is_last}
 use Rattle.symbols.proofs.Finding.{missed, ended, next}
 use Rattle.symbols.proofs.index.Index.find.Goals as goal
 

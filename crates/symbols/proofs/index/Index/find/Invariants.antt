@@ -1,5 +1,6 @@
 use Rattle.std.proofs.Common.{◌≡◌, ◌≤◌}
-use Rattle.symbols.specs.Indexing.{bucket_in, last_in}
+use Rattle.names.specs.Indexing.{last_in}
+use Rattle.symbols.specs.Indexing.{bucket_in}
 use Rattle.symbols.specs.Parts.{bucket_of}
 use Rattle.symbols.proofs.Finding.{Others}
 use Rattle.symbols.proofs.index.Index.find.Given as goal
