@@ -1,4 +1,5 @@
 pub mod Chains
 pub mod Numbered
 pub mod Finding
+pub mod Linking
 pub mod Adding

@@ -5,10 +5,10 @@ use Rattle.std.proofs.lemmas.List.{get_or-set_same, get_or-set_other}
 use Rattle.layout.specs.Tabling.{unused_word}
 use Rattle.layout.specs.declared.word.Word.{Word}
 use Rattle.names.specs.Indexing.{last_in}
+use Rattle.names.proofs.Linking.{heads_more, links_more}
 use Rattle.symbols.specs.Indexing.{IsIndex, Adds, word_in, bytes_in, bucket_in}
 use Rattle.symbols.specs.Parts.{quoted, sum_of, bucket_of}
 use Rattle.symbols.specs.declared.index.Index.{Index}
-use Rattle.names.proofs.Chains.{same_last, last_here, last_elsewhere}
 
 module _ (text : List ℕ) (index new : Index) (word : Word) (sum h : ℕ) (summed : sum ≡ sum_of (quoted text word)) (bucket : h ≡ sum % 4096) (words : new.literals ≡ set index.literals index.count word) (room : index.count < length index.literals)
     (count : new.count ≡ index.count + 1) where
@@ -40,31 +40,13 @@ module _ (text : List ℕ) (index new : Index) (word : Word) (sum h : ℕ) (summ
             let under : k < index.count = omega arith in
             ap (λ ss. get_or ss k 0) sums ∙ get_or-set_other index.sums index.count k sum 0 n ∙ ix.sums k under ∙ ap (λ w. sum_of (quoted text w)) (sym (same_word k under))
 
-    head_is : (g : ℕ) → g < 4096 → get_or new.heads g None ≡ last_in (bucket_in text new) g new.count
-    head_is g k = go (cases_eq g h)
-      where
-        go : (g ≡ h) ⊎ (g ≡ h → ⊥) → get_or new.heads g None ≡ last_in (bucket_in text new) g new.count
-        go (inl e) =
-            ap (λ hs. get_or hs g None) heads ∙ ap (λ i. get_or (set index.heads h (Some index.count)) i None) e ∙ get_or-set_same index.heads h (Some index.count) None (omega arith)
-            ∙ sym (last_here (bucket_in text new) h index.count new_bucket) ∙ ap (last_in (bucket_in text new) h) (sym count) ∙ ap (λ i. last_in (bucket_in text new) i new.count) (sym e)
-        go (inr n) =
-            ap (λ hs. get_or hs g None) heads ∙ get_or-set_other index.heads h g (Some index.count) None n ∙ ix.heads g k
-            ∙ same_last (bucket_in text index) (bucket_in text new) g index.count same_bucket
-            ∙ sym (last_elsewhere (bucket_in text new) g index.count (λ e. n (sym e ∙ new_bucket))) ∙ ap (last_in (bucket_in text new) g) (sym count)
-
-    link_is : (k : ℕ) → k < new.count → get_or new.links k None ≡ last_in (bucket_in text new) (bucket_in text new k) k
-    link_is k below = go (cases_eq k index.count)
-      where
-        go : (k ≡ index.count) ⊎ (k ≡ index.count → ⊥) → get_or new.links k None ≡ last_in (bucket_in text new) (bucket_in text new k) k
-        go (inl e) =
-            ap (λ ls. get_or ls k None) links ∙ ap (λ i. get_or (set index.links index.count (get_or index.heads h None)) i None) e ∙ get_or-set_same index.links index.count (get_or index.heads h None) None (omega arith)
-            ∙ ix.heads h low ∙ same_last (bucket_in text index) (bucket_in text new) h index.count same_bucket
-            ∙ ap (λ i. last_in (bucket_in text new) i index.count) (sym new_bucket) ∙ ap (λ i. last_in (bucket_in text new) (bucket_in text new i) i) (sym e)
-        go (inr n) =
-            let under : k < index.count = omega arith in
-            ap (λ ls. get_or ls k None) links ∙ get_or-set_other index.links index.count k (get_or index.heads h None) None n ∙ ix.links k under
-            ∙ same_last (bucket_in text index) (bucket_in text new) (bucket_in text index k) k (λ j b. same_bucket j (omega arith))
-            ∙ ap (λ i. last_in (bucket_in text new) i k) (same_bucket k under)
+    before : (g : ℕ) → g < length index.heads → get_or index.heads g None ≡ last_in (bucket_in text index) g index.count
+    before g k = ix.heads g (omega arith)
 
     pub added : IsIndex text new
-    added = record { few = omega arith; sums = sum_is; heads = head_is; links = link_is }
+    added = record {
+      few = omega arith;
+      sums = sum_is;
+      heads = λ g k. ap (λ hs. get_or hs g None) heads ∙ heads_more _ _ index.count h index.heads index.links same_bucket new_bucket (omega arith) before g (omega arith) ∙ ap (last_in (bucket_in text new) g) (sym count);
+      links = λ k below. ap (λ ls. get_or ls k None) links ∙ links_more _ _ index.count h index.heads index.links same_bucket new_bucket (omega arith) before ix.links (omega arith) k (omega arith);
+    }

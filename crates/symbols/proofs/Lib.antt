@@ -1,4 +1,3 @@
-pub mod Finding
 pub mod Adding
 pub mod Firsts
 pub mod Passing

@@ -2,7 +2,7 @@ use Rattle.std.proofs.Common.{◌≡◌, ◌<◌, ◌≤◌, length, Some, sym, 
 use Rattle.std.proofs.lemmas.Bool.{both_ways}
 use Rattle.std.proofs.lemmas.Slice.Eq.{bytes_eq-Decides}
 use Rattle.layout.specs.Tabling.{unused_word}
-use Rattle.names.specs.Parts.{part_of}
+use Rattle.names.specs.Parts.{part_of, bucket_of}
 use Rattle.names.proofs.Chains.{is_last}
 use Rattle.names.proofs.Finding.{name_at, missed, ended, next}
 use Rattle.names.proofs.Numbered.{numbered, number_below, numbered_is}
@@ -36,8 +36,8 @@ chain-preserved c =
     record {
       few = omega arith;
       used = omega arith;
-      chain = λ ix. next text s c.args.name.now ix c.chain.below c.in-Some.link (sym (inv.chain ix) ∙ c.in-Some.is) used;
-      others = λ ix. missed text s c.args.name.now c.chain.below c.in-Some.link (sym (inv.chain ix) ∙ c.in-Some.is)
+      chain = λ ix. next (name_at text s) bucket_of s.count c.args.name.now s.links ix.links c.chain.below c.in-Some.link (sym (inv.chain ix) ∙ c.in-Some.is) used;
+      others = λ ix. missed (name_at text s) bucket_of s.count c.args.name.now c.chain.below c.in-Some.link (sym (inv.chain ix) ∙ c.in-Some.is)
           (λ e. let h : c.part.result.now ≡ name_at text s c.in-Some.link = search rules in both_ways _ (sym c.eq.ensures ∙ c.if-eq.false) ((bytes_eq-Decides c.args.name.now c.part.result.now).1 (sym e ∙ sym h))) (inv.others ix);
     }
 
@@ -48,4 +48,4 @@ returns-clause-found c = λ ix k e.
     let inv = c.chain.invariant in
     let long : length s.names ≡ 512 = search rules in
     let few : s.count ≤ 512 = ix.few in
-    ended text s c.args.name.now _ (sym (inv.chain ix) ∙ c.in_default.is) (inv.others ix) k (omega arith) (number_below (part_of text) s.names s.count (omega arith) k _ e) (numbered_is (part_of text) s.names s.count (omega arith) k _ unused_word e)
+    ended (name_at text s) bucket_of s.count c.args.name.now _ (sym (inv.chain ix) ∙ c.in_default.is) (inv.others ix) k (omega arith) (number_below (part_of text) s.names s.count (omega arith) k _ e) (numbered_is (part_of text) s.names s.count (omega arith) k _ unused_word e)

@@ -1,7 +1,9 @@
 use Rattle.std.proofs.Common.{◌<◌, ◌≤◌, sym, ◌∙◌, arith}
 use Rattle.std.proofs.lemmas.Bool.{both_ways}
 use Rattle.names.proofs.Chains.{is_last}
-use Rattle.symbols.proofs.Finding.{missed, ended, next}
+use Rattle.names.proofs.Finding.{missed, ended, next}
+use Rattle.symbols.specs.Indexing.{bytes_in}
+use Rattle.symbols.specs.Parts.{bucket_of}
 use Rattle.symbols.proofs.index.Index.find.Goals as goal
 
 pub returns-then-k-below : goal.returns-then-k-below
@@ -19,8 +21,8 @@ chain-preserved c =
     let chain = sym inv.chain ∙ c.in-Some.is in
     record {
       used = omega arith;
-      chain = next text s c.args.bytes.now c.requires c.chain.below c.in-Some.link chain used;
-      others = missed text s c.args.bytes.now c.chain.below c.in-Some.link chain (λ same. both_ways _ c.if-has.false (c.has.ensures.1 same)) inv.others;
+      chain = next (bytes_in text s) bucket_of s.count c.args.bytes.now s.links c.requires.links c.chain.below c.in-Some.link chain used;
+      others = missed (bytes_in text s) bucket_of s.count c.args.bytes.now c.chain.below c.in-Some.link chain (λ same. both_ways _ c.if-has.false (c.has.ensures.1 same)) inv.others;
     }
 
 pub returns : goal.returns
@@ -28,4 +30,4 @@ returns c =
     let text = c.args.text.now in
     let s = c.args.self.now in
     let inv = c.chain.invariant in
-    λ k low same. ended text s c.args.bytes.now c.chain.below (sym inv.chain ∙ c.in_default.is) inv.others k (omega arith) low same
+    λ k low same. ended (bytes_in text s) bucket_of s.count c.args.bytes.now c.chain.below (sym inv.chain ∙ c.in_default.is) inv.others k (omega arith) low same
