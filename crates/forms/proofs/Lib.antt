@@ -5,6 +5,7 @@ pub mod RowLaws
 pub mod LookLaws
 pub mod ToldLaws
 pub mod PartLaws
+pub mod PairLaws
 pub mod PatternLaws
 pub mod ReaderLaws
 pub mod CountingLaws

@@ -1,5 +1,6 @@
 -- What each reader tells, by what the readers that it calls tell.
-use Rattle.std.proofs.Common.{◌≡◌, ℕ, zero, suc, ◌+◌, ◌-◌, ◌<◌, min, Bool, true, false, cond, ltb, List, [], ◌∷◌, length, set, Some, None, Ok, Err, Option, Result, sym, refl, ap, ◌∙◌, subst, arith}
+use Rattle.std.proofs.Common.{◌≡◌, ℕ, zero, suc, ◌+◌, ◌-◌, ◌<◌, Bool, true, false, cond, ltb, List, [], ◌∷◌, length, set, Some, None, Ok, Err, Option, Result, sym, refl, ap, ◌∙◌, subst, arith}
+use Rattle.std.proofs.lemmas.Bool.{cond_both}
 use Rattle.std.proofs.lemmas.List.{append-nil}
 use Rattle.text.specs.Grammar.{NoBracket}
 use Rattle.text.specs.Scans.{refused_at}
@@ -14,15 +15,16 @@ use Rattle.forms.specs.Atoms.{claimed}
 use Rattle.layout.specs.Words.{word_at, word}
 use Rattle.layout.specs.Encoding.{node, pattern_place}
 use Rattle.forms.specs.Drafts.{encode}
-use Rattle.grammar.specs.Forms.{is_key, Two, two, not_two, two_of, Form, let_form_rule, case_form_rule, dup_form_rule, form_named}
+use Rattle.grammar.specs.Forms.{is_key, Two, two, Form, let_form_rule, case_form_rule, dup_form_rule, form_named}
 use Rattle.forms.specs.Kinds.{form_kind}
 use Rattle.forms.specs.Looks.{Seen, NotClosing, Closes, Named, Behind}
+use Rattle.forms.specs.Pairs.{Pair, pair_of}
 use Rattle.forms.specs.Parts.{under, encode_binding, encode_branch, OnPart, OnList, OnEach, read_row, reading_at}
 use Rattle.forms.specs.Patterns.{Patterned}
 use Rattle.forms.specs.Progress.{Told}
 use Rattle.grammar.specs.Reading.{Tally, Outcome, refused, made, and_then, count_node, Binding, Branch, expr_atom, atom_expr, name_read, read_part, read_parts, read_pattern, read_bindings, read_binding_list, read_branches, read_expr, read_form, binding_of, read_binding, branch_of, read_branch}
 use Rattle.forms.specs.Rows.{closed_by, read_each, encode_each, Along}
-use Rattle.grammar.specs.Sexps.{Sexp, atom, list, Sexps, nil, cons, Atoms, AllAtoms}
+use Rattle.grammar.specs.Sexps.{Sexp, atom, list, Sexps, nil, cons, place, Atoms, AllAtoms}
 use Rattle.grammar.specs.Streams.{stream, count, first_head}
 use Rattle.forms.specs.Surveys.{surveyed}
 use Rattle.grammar.specs.Trees.{Ident, Expr, Pattern, dup_expr, let_expr, case_expr, Bindings}
@@ -33,10 +35,12 @@ use Rattle.layout.specs.declared.node.Node.{Node}
 use Rattle.layout.specs.declared.node.NodeForm.{NodeForm}
 use Rattle.layout.specs.declared.node.NodeForm.TheVariants as form
 use Rattle.forms.specs.declared.patterns.PatternAt.{PatternAt}
+use Rattle.forms.specs.declared.sight.Opened.{Opened}
 use Rattle.forms.specs.declared.spot.Spot.{Spot}
 use Rattle.forms.proofs.AtomLaws.{one_node, granted, denied}
-use Rattle.forms.proofs.FormLaws.{View, is_if, is_begin, is_let, is_case, is_dup, is_apply, is_wrong, kind_capped, view, count_two, other_two}
+use Rattle.forms.proofs.FormLaws.{View, is_if, is_begin, is_let, is_case, is_dup, is_apply, is_wrong, kind_capped, view}
 use Rattle.forms.proofs.LookLaws.{is_atom, is_list}
+use Rattle.forms.proofs.PairLaws.{pair_made}
 use Rattle.forms.proofs.PartLaws.{Alike, both_refused, both_made, alike_count, told_alike, both, told_then, told_under, if_alike, begin_alike, apply_alike, let_alike, case_alike}
 use Rattle.forms.proofs.RowLaws.{left_none, left_some, along_start, along_end, along_part, along_next, along_refused}
 use Rattle.forms.proofs.SurveyLaws.{survey_list}
@@ -210,40 +214,35 @@ module _ (text : List ℕ) (spot : Spot) (ns : List Node) (k : Bracket) (w : Lis
       (told_spot (λ n. n.nodes) text rest (record { place = inside; used = spot.used }) spot ns (encode spot.used) (reading_at entries (depth - 1) p (form_named l.parts) n) r now refl
       (told l.parts l.shape l.end rest n l.inside l.atoms u))
 
-  module _ {A : Type 0} (encoding : ℕ → A → List Node) (of : Two → Tally → Outcome A) (read : Sexp → Tally → Outcome A) (reads : (shape : Bracket) (ss : Sexps) (q : ℕ) (n : Tally) → read (list shape p ss q) n ≡ of (two_of ss) n)
-      (parts : ℕ) (is_parts : parts ≡ (surveyed (lexed_from text inside)).parts) where
-    counted : (ss : Sexps) (shape : Bracket) (q : ℕ) (rest : Lexed) → lexed_from text inside ≡ closed_by ss shape q rest → AllAtoms ss → parts ≡ min 7 (count ss)
-    counted ss shape q rest e a = is_parts ∙ ap (λ l. (surveyed l).parts) e ∙ ap (λ s. s.parts) (survey_list ss shape q rest a)
+-- A list of two parts.
+module _ {A : Type 0} (text : List ℕ) (spot : Spot) (ns : List Node) (encoding : ℕ → A → List Node) (of : ℕ → Two → Tally → Outcome A) (read : Sexp → Tally → Outcome A) (reads : (s : Sexp) (n : Tally) → read s n ≡ of (place s) (pair_of s) n) where
+  pub on_pair : (o : Opened) (r : Result Spot Refused) (now : List Node) → ((s : Sexp) (rest : Lexed) → lexed_from text spot.place ≡ stream s rest → Atoms s → Pair text rest s o)
+      → ((x e : Sexp) → OnList text (record { place = o.inside; used = spot.used }) ns encoding (cons x (cons e nil)) (of o.place (two x e)) r now) → OnPart text spot ns encoding read r now
+  on_pair o r now pairs told s rest n e a u =
+      let pair = pairs s rest e a in
+      subst (λ o. Told text rest spot ns (encoding spot.used) o r now) (sym (pair_made of read reads text rest s n o pair))
+      (told_spot (λ n. n.nodes) text rest (record { place = o.inside; used = spot.used }) spot ns (encoding spot.used) (of o.place (two pair.first pair.second) n) r now refl
+      (told pair.first pair.second pair.shape pair.end rest n pair.follows pair.atoms u))
 
-    pub pair_read : (r : Result Spot Refused) (now : List Node) → parts ≡ 2 → ((x e : Sexp) → OnList text (record { place = inside; used = spot.used }) ns encoding (cons x (cons e nil)) (of (two x e)) r now) → OnPart text spot ns encoding read r now
-    pair_read r now c told s rest n e a u =
-        let l = is_list k p w (lexed_from text inside) s rest a (sym seen.follows ∙ e) in
-        let m = counted l.parts l.shape l.end rest l.inside l.atoms in
-        let t = count_two l.parts (omega arith) in
-        subst (λ o. Told text rest spot ns (encoding spot.used) o r now) (sym (ap (λ s. read s n) l.is ∙ reads l.shape l.parts l.end n ∙ ap (λ ss. of (two_of ss) n) t.1.1))
-        (told_spot (λ n. n.nodes) text rest (record { place = inside; used = spot.used }) spot ns (encoding spot.used) (of (two t.0 t.1.0) n) r now refl
-        (told t.0 t.1.0 l.shape l.end rest n (l.inside ∙ ap (λ ss. closed_by ss l.shape l.end rest) t.1.1) (subst AllAtoms t.1.1 l.atoms) u))
+module _ (entries : ℕ) (read : Sexp → Tally → Outcome Expr) where
+  pub pair_binding : (s : Sexp) (n : Tally) → read_binding entries read s n ≡ binding_of entries read (place s) (pair_of s) n
+  pair_binding (atom k p w) n = refl
+  pair_binding (list shape p ss q) n = refl
 
-    pub pair_wrong : (x : Refused) (now : List Node) → (parts ≡ 2 → ⊥) → ((n : Tally) → of not_two n ≡ refused (refused_at refusal.Form p)) → x ≡ refused_at refusal.Form p → OnPart text spot ns encoding read (Err x) now
-    pair_wrong x now c is_not is_x s rest n e a u =
-        let l = is_list k p w (lexed_from text inside) s rest a (sym seen.follows ∙ e) in
-        let m = counted l.parts l.shape l.end rest l.inside l.atoms in
-        subst (λ o. Told text rest spot ns (encoding spot.used) o (Err x) now) (sym (ap (λ s. read s n) l.is ∙ reads l.shape l.parts l.end n ∙ ap (λ t. of t n) (other_two l.parts (λ z. c (omega arith))) ∙ is_not n)) (ap Err is_x)
+  pub pair_branch : (s : Sexp) (n : Tally) → read_branch entries read s n ≡ branch_of entries read (place s) (pair_of s) n
+  pair_branch (atom k p w) n = refl
+  pair_branch (list shape p ss q) n = refl
 
 -- Names and patterns use nothing of the limits.
-abbrev Keeps : {A : Type 0} → Tally → Outcome A → Type 0
+abbrev pub Keeps : {A : Type 0} → Tally → Outcome A → Type 0
 Keeps n (refused x) = Unit {0}
 Keeps n (made a m) = m ≡ n
 
-keeps_then : {A B : Type 0} (n : Tally) (o : Outcome A) (f : A → Tally → Outcome B) → Keeps n o → ((a : A) → Keeps n (f a n)) → Keeps n (and_then o f)
+pub keeps_then : {A B : Type 0} (n : Tally) (o : Outcome A) (f : A → Tally → Outcome B) → Keeps n o → ((a : A) → Keeps n (f a n)) → Keeps n (and_then o f)
 keeps_then n (refused x) f k h = tt
 keeps_then n (made a m) f k h = subst (λ m. Keeps n (f a m)) (sym k) (h a)
 
-keeps_cond : {A : Type 0} (n : Tally) (b : Bool) (o p : Outcome A) → Keeps n o → Keeps n p → Keeps n (cond b o p)
-keeps_cond n true o p h k = h
-keeps_cond n false o p h k = k
-
-keeps_name : (s : Sexp) (n : Tally) → Keeps n (name_read s n)
+pub keeps_name : (s : Sexp) (n : Tally) → Keeps n (name_read s n)
 keeps_name (list shape p ss q) n = tt
 keeps_name (atom kind.Name p w) n = refl
 keeps_name (atom (kind.Open r) p w) n = tt
@@ -259,7 +258,7 @@ keeps_part (atom (kind.Open r) p w) n = tt
 keeps_part (atom (kind.Close r) p w) n = tt
 keeps_part (atom kind.Symbol p w) n = tt
 keeps_part (atom (kind.Integer z) p w) n = tt
-keeps_part (atom (kind.Keyword k) p w) n = keeps_cond n (is_key k keyword.Wildcard) _ _ refl tt
+keeps_part (atom (kind.Keyword k) p w) n = cond_both (is_key k keyword.Wildcard) _ _ (Keeps n) (λ t. refl) (λ f. tt)
 
 keeps_parts : (ss : Sexps) (n : Tally) → Keeps n (read_parts ss n)
 keeps_parts nil n = refl
@@ -273,7 +272,7 @@ keeps_pattern (atom (kind.Open r) p w) n = tt
 keeps_pattern (atom (kind.Close r) p w) n = tt
 keeps_pattern (atom kind.Symbol p w) n = tt
 keeps_pattern (atom (kind.Integer z) p w) n = tt
-keeps_pattern (atom (kind.Keyword k) p w) n = keeps_cond n (is_key k keyword.Wildcard) _ _ refl tt
+keeps_pattern (atom (kind.Keyword k) p w) n = cond_both (is_key k keyword.Wildcard) _ _ (Keeps n) (λ t. refl) (λ f. tt)
 
 -- A binding or a branch: a name or a pattern, and then one expression.
 module _ (text : List ℕ) (spot : Spot) (ns : List Node) (entries p m : ℕ) (read : Sexp → Tally → Outcome Expr) (c : claimed spot.used entries p ≡ Ok m) where

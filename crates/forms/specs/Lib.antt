@@ -8,3 +8,4 @@ pub mod Rows
 pub mod Parts
 pub mod Patterns
 pub mod Sources
+pub mod Pairs

@@ -26,7 +26,7 @@ pub fn over_limit(place: usize) -> Refused
 }
 
 // One node more, at a place: how many are used then.
-pub(crate) fn claim(used: usize, entries: usize, place: usize) -> Result<usize, Refused>
+pub(crate) fn claim(used: usize, entries: usize, place: u16) -> Result<usize, Refused>
     ensures { result ≡ claimed used entries place }
 {
     if used < entries.min(NODES) {
@@ -37,13 +37,17 @@ pub(crate) fn claim(used: usize, entries: usize, place: usize) -> Result<usize, 
     } else {
         Refusal::Limit
     };
-    Err(Refused { refusal, place })
+    Err(Refused {
+        refusal,
+        place: place as usize,
+    })
 }
 
 // The node of a token that is an expression by itself. A name has at most 63 bytes, so its size fits.
 pub(crate) fn leaf(kind: TokenKind, place: u16, size: usize) -> Option<NodeForm>
     ensures { result ≡ leaf_form kind place size }
 {
+    // A conversion, case by case: no arm is a step.
     match kind {
         TokenKind::Integer(n) => Some(NodeForm::Integer(n)),
         TokenKind::Symbol => Some(NodeForm::Symbol(place)),

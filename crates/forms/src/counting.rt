@@ -45,6 +45,7 @@ pub(crate) fn count_lists(text: &[u8], counts: &mut [Option<u8>; 65536])
         parts: 0,
     }; DEPTH];
     let mut opened = Stack::new(&mut room);
+    // Tokens are followed: the place is where the last one ended, and no index.
     let mut at = 0;
     'tokens: loop {
         match look_at(text, at) {

@@ -25,22 +25,22 @@ use text::{Refused, TokenKind};
 // A token that is an expression by itself, at a place, with the place behind it.
 fn single(
     kind: TokenKind,
-    place: usize,
+    place: u16,
     after: usize,
     used: usize,
     nodes: &mut [Node],
 ) -> Result<Spot, Refused>
-    requires { (place ≤ after) × (after ≤ 65535) }
+    requires { place ≤ after }
     ensures few { IfOk result (λ end. (end.place ≡ after) × (end.used ≤ 4096)) }
     ensures told { (text w : List ℕ) (n : Tally) → Spelt kind w → after ≡ place + length w → n.nodes ≡ used → Told text (lexed_from text after) (record { place = place; used = used }) nodes.old (encode used) (expr_atom (length nodes.old) place (atom_expr (length nodes.old) kind place w) n) result nodes.new }
 {
-    let Some(form) = leaf(kind, place as u16, after - place) else {
-        return Err(wrong(place));
+    let Some(form) = leaf(kind, place, after - place as usize) else {
+        return Err(wrong(place as usize));
     };
     let past = claim(used, nodes.len(), place)?;
     nodes[used] = Node {
         form,
-        place: place as u16,
+        place,
         past: past as u16,
     };
     Ok(Spot {
@@ -61,7 +61,7 @@ pub fn expression(
     ensures told { OnPart source.now.text.now spot nodes.old encode (read_expr (length nodes.old) depth) result nodes.new }
 {
     match look_at(source.text, spot.place) {
-        Look::Atom(kind, at, after) => single(kind, at, after, spot.used, nodes),
+        Look::Atom(kind, at, after) => single(kind, at as u16, after, spot.used, nodes),
         Look::Open(at, inside) => {
             if depth == 0 {
                 return Err(wrong(at));
@@ -70,7 +70,7 @@ pub fn expression(
                 place: inside,
                 ..spot
             };
-            list(source, at, first, nodes, depth - 1)
+            list(source, at as u16, first, nodes, depth - 1)
         }
         Look::Close(at, _) => Err(wrong(at)),
         Look::End => Err(wrong(spot.place)),
@@ -81,12 +81,11 @@ pub fn expression(
 #[cycle(expression)]
 fn list(
     source: &Source,
-    place: usize,
+    place: u16,
     spot: Spot,
     nodes: &mut [Node],
     depth: usize,
 ) -> Result<Spot, Refused>
-    requires { place ≤ length source.now.text.now }
     ensures goes { Goes source.now.text.now spot result }
     ensures told { OnEach source.now.text.now spot nodes.old encode (λ ss. reading_at (length nodes.old) depth place (form_named ss)) result nodes.new }
 {
@@ -94,14 +93,13 @@ fn list(
         place: behind(source.text, spot.place),
         ..spot
     };
-    match form_of(source.survey(spot.place)) {
-        Some(FormKind::If) => row(source, place, NodeForm::If, inside, nodes, depth),
-        Some(FormKind::Begin) => row(source, place, NodeForm::Begin, inside, nodes, depth),
-        Some(FormKind::Let) => let_form(source, place, inside, nodes, depth),
-        Some(FormKind::Case) => case_form(source, place, inside, nodes, depth),
-        Some(FormKind::Dup) => dup_form(source, place, inside, nodes),
-        Some(FormKind::Apply) => row(source, place, NodeForm::Apply, spot, nodes, depth),
-        None => Err(wrong(place)),
+    match form_of(source.survey(spot.place)).ok_or(wrong(place as usize))? {
+        FormKind::If => row(source, place, NodeForm::If, inside, nodes, depth),
+        FormKind::Begin => row(source, place, NodeForm::Begin, inside, nodes, depth),
+        FormKind::Let => let_form(source, place, inside, nodes, depth),
+        FormKind::Case => case_form(source, place, inside, nodes, depth),
+        FormKind::Dup => dup_form(source, place, inside, nodes),
+        FormKind::Apply => row(source, place, NodeForm::Apply, spot, nodes, depth),
     }
 }
 
@@ -109,13 +107,12 @@ fn list(
 #[cycle(expression)]
 fn row(
     source: &Source,
-    place: usize,
+    place: u16,
     form: NodeForm,
     spot: Spot,
     nodes: &mut [Node],
     depth: usize,
 ) -> Result<Spot, Refused>
-    requires { place ≤ length source.now.text.now }
     ensures goes { Goes source.now.text.now spot result }
     ensures told { OnEach source.now.text.now spot nodes.old (under form place (encode_each encode)) (read_row (length nodes.old) place (read_expr (length nodes.old) depth)) result nodes.new }
 {
@@ -131,7 +128,7 @@ fn row(
     )?;
     nodes[spot.used] = Node {
         form,
-        place: place as u16,
+        place,
         past: end.used as u16,
     };
     Ok(end)
@@ -149,6 +146,7 @@ fn expressions(
     ensures goes { Goes source.now.text.now spot result }
     ensures told { OnEach source.now.text.now spot nodes.old (encode_each encode) (read_each (read_expr (length nodes.old) depth)) result nodes.new }
 {
+    // Parts are followed: the spot is where the last one ended, and no index.
     let mut at = spot;
     'parts: loop {
         if let Some(after) = closing_at(source.text, at.place) {
@@ -162,12 +160,11 @@ fn expressions(
 #[cycle(expression)]
 fn let_form(
     source: &Source,
-    place: usize,
+    place: u16,
     spot: Spot,
     nodes: &mut [Node],
     depth: usize,
 ) -> Result<Spot, Refused>
-    requires { place ≤ length source.now.text.now }
     ensures goes { Goes source.now.text.now spot result }
     ensures told { (bs e : Sexp) → OnList source.now.text.now spot nodes.old encode (cons bs (cons e nil)) (reading_at (length nodes.old) depth place (let_form_rule bs e)) result nodes.new }
 {
@@ -181,7 +178,7 @@ fn let_form(
     let end = expressions(source, middle, nodes, depth)?;
     nodes[spot.used] = Node {
         form: NodeForm::Let,
-        place: place as u16,
+        place,
         past: end.used as u16,
     };
     Ok(end)
@@ -194,6 +191,7 @@ fn bindings(source: &Source, spot: Spot, nodes: &mut [Node], depth: usize) -> Re
     ensures goes { Goes source.now.text.now spot result }
     ensures told { OnEach source.now.text.now spot nodes.old (encode_each encode_binding) (read_each (read_binding (length nodes.old) (read_expr (length nodes.old) depth))) result nodes.new }
 {
+    // Parts are followed: the spot is where the last one ended, and no index.
     let mut at = spot;
     'parts: loop {
         if let Some(after) = closing_at(source.text, at.place) {
@@ -209,27 +207,23 @@ fn binding(source: &Source, spot: Spot, nodes: &mut [Node], depth: usize) -> Res
     ensures goes { Goes source.now.text.now spot result }
     ensures told { OnPart source.now.text.now spot nodes.old encode_binding (read_binding (length nodes.old) (read_expr (length nodes.old) depth)) result nodes.new }
 {
-    let opened = opening_at(source.text, spot.place)?;
-    if source.survey(opened.inside).parts != 2 {
-        return Err(wrong(opened.place));
-    }
+    let opened = source.pair_at(spot.place)?;
     let inside = Spot {
         place: opened.inside,
         ..spot
     };
-    bound(source, opened.place, inside, nodes, depth)
+    bound(source, opened.place as u16, inside, nodes, depth)
 }
 
 // The name and the expression of the binding that begins at a place.
 #[cycle(expression)]
 fn bound(
     source: &Source,
-    place: usize,
+    place: u16,
     spot: Spot,
     nodes: &mut [Node],
     depth: usize,
 ) -> Result<Spot, Refused>
-    requires { place ≤ length source.now.text.now }
     ensures goes { Goes source.now.text.now spot result }
     ensures told { (x e : Sexp) → OnList source.now.text.now spot nodes.old encode_binding (cons x (cons e nil)) (binding_of (length nodes.old) (read_expr (length nodes.old) depth) place (two x e)) result nodes.new }
 {
@@ -242,7 +236,7 @@ fn bound(
     let end = expressions(source, inside, nodes, depth)?;
     nodes[spot.used] = Node {
         form: NodeForm::Binding(name.word()),
-        place: place as u16,
+        place,
         past: end.used as u16,
     };
     Ok(end)
@@ -252,12 +246,11 @@ fn bound(
 #[cycle(expression)]
 fn case_form(
     source: &Source,
-    place: usize,
+    place: u16,
     spot: Spot,
     nodes: &mut [Node],
     depth: usize,
 ) -> Result<Spot, Refused>
-    requires { place ≤ length source.now.text.now }
     ensures goes { Goes source.now.text.now spot result }
     ensures told { (e b : Sexp) (bs : Sexps) → OnList source.now.text.now spot nodes.old encode (cons e (cons b bs)) (reading_at (length nodes.old) depth place (case_form_rule e b bs)) result nodes.new }
 {
@@ -274,7 +267,7 @@ fn case_form(
     let end = branches(source, middle, nodes, depth)?;
     nodes[spot.used] = Node {
         form: NodeForm::Case,
-        place: place as u16,
+        place,
         past: end.used as u16,
     };
     Ok(end)
@@ -287,6 +280,7 @@ fn branches(source: &Source, spot: Spot, nodes: &mut [Node], depth: usize) -> Re
     ensures goes { Goes source.now.text.now spot result }
     ensures told { OnEach source.now.text.now spot nodes.old (encode_each encode_branch) (read_each (read_branch (length nodes.old) (read_expr (length nodes.old) depth))) result nodes.new }
 {
+    // Parts are followed: the spot is where the last one ended, and no index.
     let mut at = spot;
     'parts: loop {
         if let Some(after) = closing_at(source.text, at.place) {
@@ -302,27 +296,23 @@ fn branch(source: &Source, spot: Spot, nodes: &mut [Node], depth: usize) -> Resu
     ensures goes { Goes source.now.text.now spot result }
     ensures told { OnPart source.now.text.now spot nodes.old encode_branch (read_branch (length nodes.old) (read_expr (length nodes.old) depth)) result nodes.new }
 {
-    let opened = opening_at(source.text, spot.place)?;
-    if source.survey(opened.inside).parts != 2 {
-        return Err(wrong(opened.place));
-    }
+    let opened = source.pair_at(spot.place)?;
     let inside = Spot {
         place: opened.inside,
         ..spot
     };
-    arm(source, opened.place, inside, nodes, depth)
+    arm(source, opened.place as u16, inside, nodes, depth)
 }
 
 // The pattern and the expression of the branch that begins at a place.
 #[cycle(expression)]
 fn arm(
     source: &Source,
-    place: usize,
+    place: u16,
     spot: Spot,
     nodes: &mut [Node],
     depth: usize,
 ) -> Result<Spot, Refused>
-    requires { place ≤ length source.now.text.now }
     ensures goes { Goes source.now.text.now spot result }
     ensures told { (x e : Sexp) → OnList source.now.text.now spot nodes.old encode_branch (cons x (cons e nil)) (branch_of (length nodes.old) (read_expr (length nodes.old) depth) place (two x e)) result nodes.new }
 {
@@ -335,15 +325,14 @@ fn arm(
     let end = expressions(source, inside, nodes, depth)?;
     nodes[spot.used] = Node {
         form: NodeForm::Branch(pattern.place as u16),
-        place: place as u16,
+        place,
         past: end.used as u16,
     };
     Ok(end)
 }
 
 // A dup, from its name on.
-fn dup_form(source: &Source, place: usize, spot: Spot, nodes: &mut [Node]) -> Result<Spot, Refused>
-    requires { place ≤ length source.now.text.now }
+fn dup_form(source: &Source, place: u16, spot: Spot, nodes: &mut [Node]) -> Result<Spot, Refused>
     ensures goes { Goes source.now.text.now spot result }
     ensures told { (depth : ℕ) (x : Sexp) → OnList source.now.text.now spot nodes.old encode (cons x nil) (reading_at (length nodes.old) depth place (dup_form_rule x)) result nodes.new }
 {
@@ -352,7 +341,7 @@ fn dup_form(source: &Source, place: usize, spot: Spot, nodes: &mut [Node]) -> Re
     let after = end_at(source.text, name.after)?;
     nodes[spot.used] = Node {
         form: NodeForm::Dup(name.word()),
-        place: place as u16,
+        place,
         past: past as u16,
     };
     Ok(Spot {

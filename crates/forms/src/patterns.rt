@@ -36,6 +36,7 @@ fn parts_at(text: &[u8], place: usize) -> Result<usize, Refused>
     ensures goes { GoesParts text.now place result }
     ensures told { PassedAll read_parts text.now place result }
 {
+    // Tokens are followed: the place is where the last one ended, and no index.
     let mut at = place;
     'parts: loop {
         match look_at(text, at) {

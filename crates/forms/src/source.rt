@@ -7,7 +7,8 @@ mod making;
 #[derive(Drop)]
 pub struct Source<'t> {
     pub text: &'t [u8],
-    // for each place where the parts of a list begin how many it has, where that is known; seven stands for more
+    // for each place where the parts of a list begin how many it has, where that is known; seven stands for more;
+    // by place and in a fixed array, since a library takes no heap, and a text has no such places side by side
     counts: [Option<u8>; 65536],
     ghost short: { length text.now ≤ 65535 },
     ghost right: { Known text.now counts },

@@ -7,7 +7,7 @@ use super::sight::{Look, look_at};
 use text::{Keyword, TokenKind};
 
 // What decides the form of a list: how many parts it has, where seven stands for more, and the reserved word at its head.
-#[derive(Clone, Copy)]
+#[derive(Clone, Copy, PartialEq, Eq)]
 pub struct Survey {
     pub parts: usize,
     pub head: Option<Keyword>,
@@ -39,6 +39,7 @@ fn counted_on(depth: usize, parts: usize) -> usize
 pub(crate) fn count_parts(text: &[u8], place: usize) -> usize
     ensures { result ≡ parts_of (lexed_from text.now place) }
 {
+    // Tokens are followed: the place is where the last one ended, and no index.
     let mut depth = 0;
     let mut parts = 0;
     let mut at = place;

@@ -1,4 +1,4 @@
-use Rattle.std.proofs.Common.{◌≡◌, length, Some, None, Ok, Err, sym, refl, ap, ◌∙◌, subst, arith}
+use Rattle.std.proofs.Common.{◌≡◌, length, Some, None, Ok, Err, sym, ap, ◌∙◌, subst, arith, rules}
 use Rattle.std.proofs.lemmas.Result.{err_from_is_err_and}
 use Rattle.forms.specs.Drafts.{encode}
 use Rattle.forms.specs.Kinds.{form_kind}
@@ -6,7 +6,9 @@ use Rattle.forms.specs.Parts.{encode_binding, encode_branch, OnPart, OnEach}
 use Rattle.grammar.specs.Reading.{read_expr, read_binding, binding_of, read_branch, branch_of}
 use Rattle.forms.specs.Rows.{read_each, encode_each}
 use Rattle.forms.specs.declared.form.FormKind.TheVariants as formkind
-use Rattle.forms.proofs.ReaderLaws.{half_start, half_next, half_end, half_refused, row_made, row_refused, by_view, on_if, on_begin, on_let, on_case, on_dup, on_apply, on_wrong, expr_atom_law, expr_list, pair_read, pair_wrong, bound_made, bound_refused, bound_unnamed, arm_made, arm_refused, arm_unmatched, case_made, case_refused, case_stopped, let_made, let_refused, let_stopped}
+use Rattle.text.specs.Scans.{refused_at}
+use Rattle.text.specs.declared.refusal.Refusal.TheVariants as refusal
+use Rattle.forms.proofs.ReaderLaws.{half_start, half_next, half_end, half_refused, row_made, row_refused, by_view, on_if, on_begin, on_let, on_case, on_dup, on_apply, on_wrong, expr_atom_law, expr_list, on_pair, pair_binding, pair_branch, bound_made, bound_refused, bound_unnamed, arm_made, arm_refused, arm_unmatched, case_made, case_refused, case_stopped, let_made, let_refused, let_stopped}
 use Rattle.forms.proofs.expressions.+expression.Goals as goal
 
 pub row-returns-in_err-end-clause-told : goal.row-returns-in_err-end-clause-told
@@ -120,25 +122,13 @@ expression-returns-else-depth-eq0-clause-told t c =
     let deep = c.if-depth-eq0.false in
     expr_list c.args.source.now.text.now c.args.spot c.args.nodes.now sees.0 sees.1.0 c.in-Open.at c.in-Open.inside sees.1.1 (length c.args.nodes.now) c.args.depth c.list.result c.list.new.nodes (omega arith) c.list.ensures.told
 
-pub binding-returns-then-survey-ne2-clause-told : goal.binding-returns-then-survey-ne2-clause-told
-binding-returns-then-survey-ne2-clause-told t c =
-    let sees = c.in_ok-opened.ensures in
-    pair_wrong c.args.source.now.text.now c.args.spot c.args.nodes.now sees.0 sees.1.0 c.in_ok-opened.opened.place c.in_ok-opened.opened.inside sees.1.1 encode_binding (binding_of (length c.args.nodes.now) (read_expr (length c.args.nodes.now) c.args.depth) c.in_ok-opened.opened.place) (read_binding (length c.args.nodes.now) (read_expr (length c.args.nodes.now) c.args.depth)) (λ shape ss q n. refl) c.survey.result.parts (ap (λ s. s.parts) c.survey.ensures) c.wrong.result c.args.nodes.now c.if-survey-ne2.true (λ n. refl) c.wrong.ensures
-
 pub binding-returns-clause-told : goal.binding-returns-clause-told
 binding-returns-clause-told t c =
-    let sees = c.in_ok-opened.ensures in
-    pair_read c.args.source.now.text.now c.args.spot c.args.nodes.now sees.0 sees.1.0 c.in_ok-opened.opened.place c.in_ok-opened.opened.inside sees.1.1 encode_binding (binding_of (length c.args.nodes.now) (read_expr (length c.args.nodes.now) c.args.depth) c.in_ok-opened.opened.place) (read_binding (length c.args.nodes.now) (read_expr (length c.args.nodes.now) c.args.depth)) (λ shape ss q n. refl) c.survey.result.parts (ap (λ s. s.parts) c.survey.ensures) c.bound.result c.bound.new.nodes c.if-survey-ne2.false c.bound.ensures.told
-
-pub branch-returns-then-survey-ne2-clause-told : goal.branch-returns-then-survey-ne2-clause-told
-branch-returns-then-survey-ne2-clause-told t c =
-    let sees = c.in_ok-opened.ensures in
-    pair_wrong c.args.source.now.text.now c.args.spot c.args.nodes.now sees.0 sees.1.0 c.in_ok-opened.opened.place c.in_ok-opened.opened.inside sees.1.1 encode_branch (branch_of (length c.args.nodes.now) (read_expr (length c.args.nodes.now) c.args.depth) c.in_ok-opened.opened.place) (read_branch (length c.args.nodes.now) (read_expr (length c.args.nodes.now) c.args.depth)) (λ shape ss q n. refl) c.survey.result.parts (ap (λ s. s.parts) c.survey.ensures) c.wrong.result c.args.nodes.now c.if-survey-ne2.true (λ n. refl) c.wrong.ensures
+    on_pair c.args.source.now.text.now c.args.spot c.args.nodes.now encode_binding (binding_of (length c.args.nodes.now) (read_expr (length c.args.nodes.now) c.args.depth)) (read_binding (length c.args.nodes.now) (read_expr (length c.args.nodes.now) c.args.depth)) (pair_binding (length c.args.nodes.now) (read_expr (length c.args.nodes.now) c.args.depth)) c.in_ok-opened.opened c.bound.result c.bound.new.nodes c.in_ok-opened.ensures.told c.bound.ensures.told
 
 pub branch-returns-clause-told : goal.branch-returns-clause-told
 branch-returns-clause-told t c =
-    let sees = c.in_ok-opened.ensures in
-    pair_read c.args.source.now.text.now c.args.spot c.args.nodes.now sees.0 sees.1.0 c.in_ok-opened.opened.place c.in_ok-opened.opened.inside sees.1.1 encode_branch (branch_of (length c.args.nodes.now) (read_expr (length c.args.nodes.now) c.args.depth) c.in_ok-opened.opened.place) (read_branch (length c.args.nodes.now) (read_expr (length c.args.nodes.now) c.args.depth)) (λ shape ss q n. refl) c.survey.result.parts (ap (λ s. s.parts) c.survey.ensures) c.arm.result c.arm.new.nodes c.if-survey-ne2.false c.arm.ensures.told
+    on_pair c.args.source.now.text.now c.args.spot c.args.nodes.now encode_branch (branch_of (length c.args.nodes.now) (read_expr (length c.args.nodes.now) c.args.depth)) (read_branch (length c.args.nodes.now) (read_expr (length c.args.nodes.now) c.args.depth)) (pair_branch (length c.args.nodes.now) (read_expr (length c.args.nodes.now) c.args.depth)) c.in_ok-opened.opened c.arm.result c.arm.new.nodes c.in_ok-opened.ensures.told c.arm.ensures.told
 
 pub bound-returns-in_err-name-clause-told : goal.bound-returns-in_err-name-clause-told
 bound-returns-in_err-name-clause-told t c =
@@ -210,37 +200,38 @@ let_form-returns-clause-told t c =
     let_made c.args.source.now.text.now c.args.spot c.args.nodes.now (length c.args.nodes.now) c.args.place c.in_ok-first.first (read_expr (length c.args.nodes.now) c.args.depth) (sym c.in_ok-first.ensures) sees.0 sees.1.0 _ c.in_ok-opened.opened.inside sees.1.1 c.in_ok-middle.middle c.in_ok-end.end c.bindings.new.nodes c.expressions.new.nodes c.in_ok-middle.ensures.told
     (subst (λ k. OnEach c.args.source.now.text.now c.in_ok-middle.middle c.bindings.new.nodes (encode_each encode) (read_each (read_expr k c.args.depth)) (Ok c.in_ok-end.end) c.expressions.new.nodes) long c.in_ok-end.ensures.told)
 
-pub list-returns-in-Some-If-clause-told : goal.list-returns-in-Some-If-clause-told
-list-returns-in-Some-If-clause-told t c =
-    let kind = ap Some (sym c.in-Some-If.field-0-is) ∙ c.in-Some-If.ensures ∙ ap (λ s. form_kind s.head s.parts) c.survey.ensures in
+pub list-returns-in-If-clause-told : goal.list-returns-in-If-clause-told
+list-returns-in-If-clause-told t c =
+    let kind = sym (c.in_ok-ok_or.ensures.ok_part ∙ ap Some c.in-If.is) ∙ c.form_of.ensures ∙ ap (λ s. form_kind s.head s.parts) c.survey.ensures in
     by_view c.args.source.now.text.now c.args.spot c.args.nodes.now (length c.args.nodes.now) c.args.depth c.args.place c.row.result c.row.new.nodes (Some formkind.If) kind (on_if c.args.source.now.text.now c.args.spot c.args.nodes.now (length c.args.nodes.now) c.args.depth c.args.place c.behind.result c.row.result c.row.new.nodes c.behind.ensures c.row.ensures.told)
 
-pub list-returns-in-Some-Begin-clause-told : goal.list-returns-in-Some-Begin-clause-told
-list-returns-in-Some-Begin-clause-told t c =
-    let kind = ap Some (sym c.in-Some-Begin.field-0-is) ∙ c.in-Some-Begin.ensures ∙ ap (λ s. form_kind s.head s.parts) c.survey.ensures in
-    by_view c.args.source.now.text.now c.args.spot c.args.nodes.now (length c.args.nodes.now) c.args.depth c.args.place c.row-in-Some-Begin.result c.row-in-Some-Begin.new.nodes (Some formkind.Begin) kind (on_begin c.args.source.now.text.now c.args.spot c.args.nodes.now (length c.args.nodes.now) c.args.depth c.args.place c.behind.result c.row-in-Some-Begin.result c.row-in-Some-Begin.new.nodes c.behind.ensures c.row-in-Some-Begin.ensures.told)
+pub list-returns-in-Begin-clause-told : goal.list-returns-in-Begin-clause-told
+list-returns-in-Begin-clause-told t c =
+    let kind = sym (c.in_ok-ok_or.ensures.ok_part ∙ ap Some c.in-Begin.is) ∙ c.form_of.ensures ∙ ap (λ s. form_kind s.head s.parts) c.survey.ensures in
+    by_view c.args.source.now.text.now c.args.spot c.args.nodes.now (length c.args.nodes.now) c.args.depth c.args.place c.row-in-Begin.result c.row-in-Begin.new.nodes (Some formkind.Begin) kind (on_begin c.args.source.now.text.now c.args.spot c.args.nodes.now (length c.args.nodes.now) c.args.depth c.args.place c.behind.result c.row-in-Begin.result c.row-in-Begin.new.nodes c.behind.ensures c.row-in-Begin.ensures.told)
 
-pub list-returns-in-Some-Let-clause-told : goal.list-returns-in-Some-Let-clause-told
-list-returns-in-Some-Let-clause-told t c =
-    let kind = ap Some (sym c.in-Some-Let.field-0-is) ∙ c.in-Some-Let.ensures ∙ ap (λ s. form_kind s.head s.parts) c.survey.ensures in
+pub list-returns-in-Let-clause-told : goal.list-returns-in-Let-clause-told
+list-returns-in-Let-clause-told t c =
+    let kind = sym (c.in_ok-ok_or.ensures.ok_part ∙ ap Some c.in-Let.is) ∙ c.form_of.ensures ∙ ap (λ s. form_kind s.head s.parts) c.survey.ensures in
     by_view c.args.source.now.text.now c.args.spot c.args.nodes.now (length c.args.nodes.now) c.args.depth c.args.place c.let_form.result c.let_form.new.nodes (Some formkind.Let) kind (on_let c.args.source.now.text.now c.args.spot c.args.nodes.now (length c.args.nodes.now) c.args.depth c.args.place c.behind.result c.let_form.result c.let_form.new.nodes c.behind.ensures c.let_form.ensures.told)
 
-pub list-returns-in-Some-Case-clause-told : goal.list-returns-in-Some-Case-clause-told
-list-returns-in-Some-Case-clause-told t c =
-    let kind = ap Some (sym c.in-Some-Case.field-0-is) ∙ c.in-Some-Case.ensures ∙ ap (λ s. form_kind s.head s.parts) c.survey.ensures in
+pub list-returns-in-Case-clause-told : goal.list-returns-in-Case-clause-told
+list-returns-in-Case-clause-told t c =
+    let kind = sym (c.in_ok-ok_or.ensures.ok_part ∙ ap Some c.in-Case.is) ∙ c.form_of.ensures ∙ ap (λ s. form_kind s.head s.parts) c.survey.ensures in
     by_view c.args.source.now.text.now c.args.spot c.args.nodes.now (length c.args.nodes.now) c.args.depth c.args.place c.case_form.result c.case_form.new.nodes (Some formkind.Case) kind (on_case c.args.source.now.text.now c.args.spot c.args.nodes.now (length c.args.nodes.now) c.args.depth c.args.place c.behind.result c.case_form.result c.case_form.new.nodes c.behind.ensures c.case_form.ensures.told)
 
-pub list-returns-in-Some-Dup-clause-told : goal.list-returns-in-Some-Dup-clause-told
-list-returns-in-Some-Dup-clause-told t c =
-    let kind = ap Some (sym c.in-Some-Dup.field-0-is) ∙ c.in-Some-Dup.ensures ∙ ap (λ s. form_kind s.head s.parts) c.survey.ensures in
+pub list-returns-in-Dup-clause-told : goal.list-returns-in-Dup-clause-told
+list-returns-in-Dup-clause-told t c =
+    let kind = sym (c.in_ok-ok_or.ensures.ok_part ∙ ap Some c.in-Dup.is) ∙ c.form_of.ensures ∙ ap (λ s. form_kind s.head s.parts) c.survey.ensures in
     by_view c.args.source.now.text.now c.args.spot c.args.nodes.now (length c.args.nodes.now) c.args.depth c.args.place c.dup_form.result c.dup_form.new.nodes (Some formkind.Dup) kind (on_dup c.args.source.now.text.now c.args.spot c.args.nodes.now (length c.args.nodes.now) c.args.depth c.args.place c.behind.result c.dup_form.result c.dup_form.new.nodes c.behind.ensures c.dup_form.ensures.told)
 
-pub list-returns-in-Some-Apply-clause-told : goal.list-returns-in-Some-Apply-clause-told
-list-returns-in-Some-Apply-clause-told t c =
-    let kind = ap Some (sym c.in-Some-Apply.field-0-is) ∙ c.in-Some-Apply.ensures ∙ ap (λ s. form_kind s.head s.parts) c.survey.ensures in
-    by_view c.args.source.now.text.now c.args.spot c.args.nodes.now (length c.args.nodes.now) c.args.depth c.args.place c.row-in-Some-Apply.result c.row-in-Some-Apply.new.nodes (Some formkind.Apply) kind (on_apply c.args.source.now.text.now c.args.spot c.args.nodes.now (length c.args.nodes.now) c.args.depth c.args.place c.behind.result c.row-in-Some-Apply.result c.row-in-Some-Apply.new.nodes c.behind.ensures c.row-in-Some-Apply.ensures.told)
+pub list-returns-in-Apply-clause-told : goal.list-returns-in-Apply-clause-told
+list-returns-in-Apply-clause-told t c =
+    let kind = sym (c.in_ok-ok_or.ensures.ok_part ∙ ap Some c.in-Apply.is) ∙ c.form_of.ensures ∙ ap (λ s. form_kind s.head s.parts) c.survey.ensures in
+    by_view c.args.source.now.text.now c.args.spot c.args.nodes.now (length c.args.nodes.now) c.args.depth c.args.place c.row-in-Apply.result c.row-in-Apply.new.nodes (Some formkind.Apply) kind (on_apply c.args.source.now.text.now c.args.spot c.args.nodes.now (length c.args.nodes.now) c.args.depth c.args.place c.behind.result c.row-in-Apply.result c.row-in-Apply.new.nodes c.behind.ensures c.row-in-Apply.ensures.told)
 
-pub list-returns-in-None-clause-told : goal.list-returns-in-None-clause-told
-list-returns-in-None-clause-told t c =
-    let kind = c.in-None.ensures ∙ ap (λ s. form_kind s.head s.parts) c.survey.ensures in
-    by_view c.args.source.now.text.now c.args.spot c.args.nodes.now (length c.args.nodes.now) c.args.depth c.args.place (Err c.wrong.result) c.args.nodes.now None kind (on_wrong c.args.source.now.text.now c.args.spot c.args.nodes.now (length c.args.nodes.now) c.args.depth c.args.place c.behind.result (Err c.wrong.result) c.args.nodes.now c.behind.ensures (ap Err c.wrong.ensures))
+pub list-returns-in_err-ok_or-clause-told : goal.list-returns-in_err-ok_or-clause-told
+list-returns-in_err-ok_or-clause-told t c =
+    let kind = sym c.in_err-ok_or.ensures.ok_part ∙ c.form_of.ensures ∙ ap (λ s. form_kind s.head s.parts) c.survey.ensures in
+    let is : c.from_residual.result ≡ Err (refused_at refusal.Form c.args.place) = search rules in
+    by_view c.args.source.now.text.now c.args.spot c.args.nodes.now (length c.args.nodes.now) c.args.depth c.args.place c.from_residual.result c.args.nodes.now None kind (on_wrong c.args.source.now.text.now c.args.spot c.args.nodes.now (length c.args.nodes.now) c.args.depth c.args.place c.behind.result c.from_residual.result c.args.nodes.now c.behind.ensures is)
