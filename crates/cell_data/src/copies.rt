@@ -29,10 +29,7 @@ fn give_list<S: CellStore>(store: &mut S, head: u32)
 pub fn copy_value<S: CellStore>(store: &mut S, value: Value) -> Result<Value, WalkRefusal>
     ensures { CleanCopies (S.CellStore.cells store.old) value result (S.CellStore.cells store.new) }
 {
-    let room = has_room(store, value)?;
-    if !room {
-        return Err(WalkRefusal::NoFreeCell);
-    }
+    has_room(store, value)?;
     // A match, since the store gives cells back before the refusal goes on.
     match copy_cells(store, value) {
         Ok(copy) => Ok(copy),

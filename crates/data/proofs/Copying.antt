@@ -1,7 +1,7 @@
 -- Laws of a copy under way.
-use Rattle.std.proofs.Common.{◌≡◌, ℕ, ◌+◌, ◌-◌, ◌<◌, ◌≤◌, leb, Bool, true, false, List, [], ◌∷◌, ◌++◌, length, get_or, take, drop, set, is_ok, Some, None, Ok, Err, Option, Result, sym, refl, ap, ◌∙◌, subst, ⊎_elim, arith}
+use Rattle.std.proofs.Common.{◌≡◌, ℕ, ◌+◌, ◌-◌, ◌<◌, ◌≤◌, false, List, [], ◌∷◌, ◌++◌, length, get_or, take, drop, set, is_ok, Some, None, Ok, Err, Option, Result, sym, refl, ap, ◌∙◌, subst, ⊎_elim, arith}
 use Rattle.std.specs.Result.{MatchResult}
-use Rattle.std.proofs.lemmas.Bool.{true≢false, false≢true, leb-true, leb-false}
+use Rattle.std.proofs.lemmas.Bool.{true≢false}
 use Rattle.std.proofs.lemmas.List.{get_or-set_other, take-append-drop, set-set}
 use Rattle.cells.specs.declared.values.Value.{Value}
 use Rattle.cells.specs.declared.values.Value.TheVariants.{Cell}
@@ -463,41 +463,26 @@ copy_says entry mid exit m₀ v t q r (told_ok {w = w}) o b same enough = record
 }
 copy_says entry mid exit m₀ v t q r told_err o b same enough = absurd o
 
--- whether there is room could not be told
-pub room_untold : {entry mid : Cells} {v : Value} {e : WalkRefusal} (r : Result Value WalkRefusal) → Rooms entry v (Err e) mid → Copies entry v r mid
-room_untold r sized = record {
-  long = sized.long;
-  refused = λ q. sized.same;
-  kept = copy_kept sized.same (λ i q h. h);
-  far = copy_far _ sized.far (λ i q h. h);
-  copies = λ t m₀ k. absurd (false≢true (ap is_ok (sized.tells t m₀ k).0));
-}
-
--- there is no room
-pub room_lacking : {entry mid : Cells} {v : Value} {room : Bool} → room ≡ false → Rooms entry v (Ok room) mid → Copies entry v (Err NoFreeCell) mid
-room_lacking {entry} {room = room} lacks sized = record {
-  long = sized.long;
-  refused = λ q. sized.same;
-  kept = copy_kept sized.same (λ i q h. h);
-  far = copy_far _ sized.far (λ i q h. h);
-  copies = λ t m₀ k.
-      let z = sized.tells t m₀ k in
-      let test : leb (count_live entry + size t) (length entry) ≡ room = let y = z.0 in cc in
-      record { number = refl; short = leb-false _ _ (test ∙ lacks); still = z.1; same = sized.same };
+-- a copy that was refused before it began
+pub room_lacking : {U : Type 0} {entry mid : Cells} {v : Value} {e : WalkRefusal} → Rooms {U = U} entry v (Err e) mid → Copies entry v (Err e) mid
+room_lacking {entry} room = record {
+  long = room.long;
+  refused = λ q. room.same;
+  kept = copy_kept room.same (λ i q h. h);
+  far = copy_far _ room.far (λ i q h. h);
+  copies = λ t m₀ k. let z = room.tells t m₀ k in record { number = z.0.0; short = z.0.1; still = z.1; same = room.same };
 }
 
 -- there is room, and what was copied says the rest
-pub room_used : {entry mid exit : Cells} {v : Value} {room : Bool} {q : Result Value Unfinished} {r : Result Value WalkRefusal} → room ≡ true → Rooms entry v (Ok room) mid → length exit ≡ length mid → Within mid exit → Told q r
+pub room_used : {U : Type 0} {entry mid exit : Cells} {v : Value} {u : U} {q : Result Value Unfinished} {r : Result Value WalkRefusal} → Rooms entry v (Ok u) mid → length exit ≡ length mid → Within mid exit → Told q r
     → ((ts : Trees) (m₀ : Cells) → Out mid (v ∷ []) ts m₀ → count_live mid + sizes ts ≤ length mid → Okay q (λ w. Out exit (w ∷ []) ts mid)) → Copies entry v r exit
-room_used {entry} {mid} {exit} {v} {room} enough_free sized long keeps told does = record {
-  long = long ∙ sized.long;
+room_used {entry} {mid} {exit} {v} room long keeps told does = record {
+  long = long ∙ room.long;
   refused = λ e. absurd (stuck_only told e);
-  kept = copy_kept sized.same keeps;
-  far = copy_far _ sized.far keeps;
+  kept = copy_kept room.same keeps;
+  far = copy_far _ room.far keeps;
   copies = λ t m₀ k.
-      let z = sized.tells t m₀ k in
-      let test : leb (count_live entry + size t) (length entry) ≡ room = let y = z.0 in cc in
-      let enough : count_live entry + size t ≤ length entry = leb-true _ _ (test ∙ enough_free) in
+      let z = room.tells t m₀ k in
       let o = out_from_keeps m₀ mid _ _ z.1 in
-      copy_says entry mid exit m₀ v t _ _ told (does (more t none) m₀ o (omega (arith, enough, sized.long, sized.live))) o sized.same enough;
+      copy_says entry mid exit m₀ v t _ _ told (does (more t none) m₀ o (omega (arith, z.0, room.long, room.live))) o room.same z.0;
 }

@@ -1,6 +1,6 @@
 -- A copy under way. New cells wait, linked through their spare numbers, until their fields are copied, too; those that are
 -- finished are linked in the same way.
-use Rattle.std.specs.Prelude.{◌≡◌, ℕ, ◌+◌, ◌<◌, ◌≤◌, Bool, true, false, ◌⊎◌, List, [], ◌∷◌, ◌++◌, length, Some, None, Ok, Err, Result, nat_le, slice_set}
+use Rattle.std.specs.Prelude.{◌≡◌, ℕ, ◌+◌, ◌<◌, ◌≤◌, true, false, ◌⊎◌, List, [], ◌∷◌, ◌++◌, length, Some, None, Ok, Err, Result, slice_set}
 use Rattle.cells.specs.declared.values.Value.{Value}
 use Rattle.cells.specs.declared.values.Value.TheVariants.{Cell}
 use Rattle.cells.specs.declared.records.CellRecord.{CellRecord}
@@ -8,14 +8,14 @@ use Rattle.cells.specs.Values.{is_cell}
 use Rattle.cells.specs.Records.{row}
 use Rattle.cells.specs.Meaning.{Cells, at, is_live, count_live, TakenAt}
 use Rattle.data.specs.declared.refusals.WalkRefusal.{WalkRefusal}
-use Rattle.data.specs.declared.refusals.WalkRefusal.TheVariants.{Stuck}
+use Rattle.data.specs.declared.refusals.WalkRefusal.TheVariants.{NoFreeCell, Stuck}
 use Rattle.data.specs.declared.unfinished.Unfinished.{Unfinished}
 use Rattle.data.specs.Trees.{Tree, Trees, none, more, size, sizes}
 use Rattle.data.specs.Standing.{less, Keeps}
 use Rattle.data.specs.Taking.{Out}
 use Rattle.data.specs.Alike.{Alike, Respared}
 use Rattle.data.specs.Reaching.{Untouched}
-use Rattle.data.specs.Refusals.{Okay, OnlyStuck}
+use Rattle.data.specs.Refusals.{Okay}
 use Rattle.data.specs.Steps.{Links}
 
 -- what is live in the first store is the same in the second
@@ -79,11 +79,15 @@ pub record CopiesCells (entry : Cells) (v : Value) (r : Result Value Unfinished)
   pub left : {u : Unfinished} → r ≡ Err u → LeftBy u entry exit
   pub copies : (ts : Trees) (m₀ : Cells) → Out entry (v ∷ []) ts m₀ → count_live entry + sizes ts ≤ length entry → Okay r (λ w. Out exit (w ∷ []) ts entry)
 
+-- whether a copy of the tree t has room
+abbrev pub RoomSays : {U : Type 0} → Cells → Tree → Result U WalkRefusal → Type 0
+RoomSays entry t (Ok u) = count_live entry + size t ≤ length entry
+RoomSays entry t (Err e) = (e ≡ NoFreeCell) × (length entry < count_live entry + size t)
+
 -- whether enough cells are free; only spare numbers change
-pub record Rooms (entry : Cells) (v : Value) (r : Result Bool WalkRefusal) (exit : Cells) : Type 0 where
+pub record Rooms {U : Type 0} (entry : Cells) (v : Value) (r : Result U WalkRefusal) (exit : Cells) : Type 0 where
   pub long : length exit ≡ length entry
   pub live : count_live exit ≡ count_live entry
   pub same : Respared entry exit
-  pub stuck : OnlyStuck r
   pub far : Untouched entry v exit
-  pub tells : (t : Tree) (m₀ : Cells) → Keeps m₀ entry (v ∷ []) (more t none) → (r ≡ Ok (nat_le (count_live entry + size t) (length entry))) × Keeps m₀ exit (v ∷ []) (more t none)
+  pub tells : (t : Tree) (m₀ : Cells) → Keeps m₀ entry (v ∷ []) (more t none) → RoomSays entry t r × Keeps m₀ exit (v ∷ []) (more t none)

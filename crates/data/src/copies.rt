@@ -103,27 +103,27 @@ pub fn copy_cells<S: CellStore>(store: &mut S, value: Value) -> Result<Value, Un
     }
 }
 
-// Whether enough cells are free for a copy. The cells are counted only where they may be too few: a tree has no more
-// cells than are live.
-pub fn has_room<S: CellStore>(store: &mut S, value: Value) -> Result<bool, WalkRefusal>
+// Refuses a copy for which too few cells are free. The cells are counted only where they may be too few: a tree has no
+// more cells than are live.
+pub fn has_room<S: CellStore>(store: &mut S, value: Value) -> Result<(), WalkRefusal>
     ensures { Rooms (S.CellStore.cells store.old) value result (S.CellStore.cells store.new) }
 {
     let live = store.live_count();
     let free = store.capacity() - live;
     if free >= live {
-        return Ok(true);
+        return Ok(());
     }
     let count = size_of(store, value)?;
-    Ok(count <= free as u32)
+    if count > free as u32 {
+        return Err(WalkRefusal::NoFreeCell);
+    }
+    Ok(())
 }
 
 // Copies the tree that the value stands for, if enough cells are free. Stuck, it leaves its new cells live.
 pub fn copy_value<S: CellStore>(store: &mut S, value: Value) -> Result<Value, WalkRefusal>
     ensures { Copies (S.CellStore.cells store.old) value result (S.CellStore.cells store.new) }
 {
-    let room = has_room(store, value)?;
-    if !room {
-        return Err(WalkRefusal::NoFreeCell);
-    }
+    has_room(store, value)?;
     copy_cells(store, value).map_err(|_| WalkRefusal::Stuck)
 }
