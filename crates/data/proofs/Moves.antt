@@ -74,10 +74,11 @@ one_reading {cs} {b = b} (out_cell {mid = mid} {n = n} {vs = vs} {fields = field
     let e₂ = w.0 in
     (cc, w.1)
 
--- the walks, with other values after the one that is walked
-
-alone : {cs m₀ : Cells} {v : Value} {vs : List Value} {t : Tree} {ts : Trees} → Out cs (v ∷ vs) (more t ts) m₀ → Two cs (v ∷ []) (more t none) vs ts m₀
+-- the first value of a row apart from the others
+pub alone : {cs m₀ : Cells} {v : Value} {vs : List Value} {t : Tree} {ts : Trees} → Out cs (v ∷ vs) (more t ts) m₀ → Two cs (v ∷ []) (more t none) vs ts m₀
 alone {v = v} {vs = vs} {t = t} {ts = ts} o = parts_at (v ∷ []) vs (more t none) ts refl o
+
+-- the walks, with other values after the one that is walked
 
 pub size_held : {entry exit m₀ : Cells} {v : Value} {r : Result ℕ WalkRefusal} {vs : List Value} {t : Tree} {ts : Trees} → Sizes entry v r exit → Out entry (v ∷ vs) (more t ts) m₀ → (r ≡ Ok (size t)) × Out exit (v ∷ vs) (more t ts) m₀
 size_held {exit = exit} {v = v} {t = t} does o =

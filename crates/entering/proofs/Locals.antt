@@ -3,7 +3,7 @@ use Rattle.std.proofs.Common.{◌≡◌, ℕ, ◌+◌, ◌-◌, ◌<◌, ◌≤�
 use Rattle.std.specs.List.{slice_get}
 use Rattle.cells.specs.Meaning.{Cells, count_live}
 use Rattle.cells.specs.declared.values.Value.{Value}
-use Rattle.data.proofs.Moves.{copy_held}
+use Rattle.data.proofs.Moves.{copy_held, alone}
 use Rattle.data.proofs.Outs.{joined, out_count}
 use Rattle.data.specs.Taking.{Out}
 use Rattle.data.specs.Trees.{Tree, none, more, size}
@@ -13,7 +13,7 @@ use Rattle.data.specs.declared.refusals.WalkRefusal.TheVariants.{NoFreeCell}
 use Rattle.machine.proofs.Cells.{live_cells, capped_add}
 use Rattle.machine.proofs.Names.{found, left_names, front_get, front_set}
 use Rattle.machine.proofs.Resting.{changed, renewed, reslotted}
-use Rattle.machine.proofs.Rows.{used, focus, alone}
+use Rattle.machine.proofs.Rows.{used, focus}
 use Rattle.machine.specs.Holding.{values_in, is_full, holds, trees_in, names, kept, slot_left, full_value}
 use Rattle.machine.specs.Mirrors.{Rests}
 use Rattle.machine.specs.declared.machine.Machine.{Machine}

@@ -3,8 +3,8 @@ use Rattle.std.proofs.Common.{◌≡◌, ℕ, zero, suc, true, false, List, [], 
 use Rattle.std.specs.List.{slice_get}
 use Rattle.cells.specs.Meaning.{Cells}
 use Rattle.cells.specs.declared.values.Value.{Value}
-use Rattle.data.proofs.Moves.{pull}
-use Rattle.data.proofs.Outs.{Two, parts_at, joined}
+use Rattle.data.proofs.Moves.{pull, alone}
+use Rattle.data.proofs.Outs.{joined}
 use Rattle.data.specs.Standing.{Plain, plain_int, plain_bool, plain_symbol, plain_unit, plain_function}
 use Rattle.data.specs.Taking.{Out, out_plain, out_cell}
 use Rattle.data.specs.Trees.{Tree, Trees, none, more}
@@ -13,10 +13,6 @@ use Rattle.machine.specs.Holding.{Slot}
 use Rattle.program.specs.Programs.{Name}
 use Rattle.rules.specs.States.{full, Environment}
 use Rattle.rules.specs.Steps.{left}
-
--- the first value of a row apart from the others
-pub alone : {cs m₀ : Cells} {v : Value} {vs : List Value} {t : Tree} {ts : Trees} → Out cs (v ∷ vs) (more t ts) m₀ → Two cs (v ∷ []) (more t none) vs ts m₀
-alone {v = v} {vs = vs} {t = t} {ts = ts} o = parts_at (v ∷ []) vs (more t none) ts refl o
 
 -- two values in the other order
 pub swap : {m m₀ : Cells} {v w : Value} {vs : List Value} {t u : Tree} {ts : Trees} → Out m (v ∷ w ∷ vs) (more t (more u ts)) m₀ → Out m (w ∷ v ∷ vs) (more u (more t ts)) m₀
