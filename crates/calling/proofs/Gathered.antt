@@ -1,6 +1,6 @@
 -- Gathering arguments, and building data of them.
-use Rattle.std.proofs.Common.{◌≡◌, ℕ, suc, ◌+◌, ◌-◌, ◌<◌, ◌⊎◌, inl, inr, ⊎_elim, true, List, [], ◌∷◌, ◌++◌, map, set, length, get_or, reverse, take, drop, min, option_map, Some, None, Option, sym, refl, ap, ◌∙◌, subst, arith}
-use Rattle.std.proofs.lemmas.List.{take_more, drop-set, reverse-append, drop-map}
+use Rattle.std.proofs.Common.{◌≡◌, ℕ, suc, ◌+◌, ◌<◌, ◌⊎◌, inl, inr, ⊎_elim, true, List, [], ◌∷◌, ◌++◌, map, length, get_or, reverse, take, drop, min, option_map, Some, None, Option, sym, refl, ap, ◌∙◌, subst, arith}
+use Rattle.std.proofs.lemmas.List.{drop-map}
 use Rattle.std.proofs.lemmas.Option.{slice_get_within, get_or_from_slice_get, slice_get-map}
 use Rattle.std.specs.List.{slice_get}
 use Rattle.calling.specs.Gathering.{Misses}
@@ -32,21 +32,6 @@ use Rattle.rules.specs.States.{Environment, Frame, Account, builds, argument, ne
 use Rattle.rules.specs.Steps.{goes, fails, stuck, Sizes, Taken, took, short, take_arguments, build, apply}
 use Rattle.stack.specs.Items.{tops, room_of}
 use Rattle.stack.specs.declared.Stack.{Stack}
-
--- one more
-pub gather_more : (fields vals : List Value) (held depth : ℕ) (last v : Value) → depth < held → held < 6 → length fields ≡ 6 → depth < length vals → get_or vals depth Nothing ≡ v
-    → take (depth + 1) (drop (held - depth) fields) ≡ reverse (last ∷ take depth vals)
-    → take (depth + 1 + 1) (drop (held - (depth + 1)) (set fields (held - 1 - depth) v)) ≡ reverse (last ∷ take (depth + 1) vals)
-gather_more fields vals held depth last v less few long within is so_far =
-    let j = held - 1 - depth in
-    let here : held - (depth + 1) ≡ j = omega arith in
-    let next : j + 1 ≡ held - depth = omega arith in
-    let there : j < length fields = omega arith in
-    let written : drop j (set fields j v) ≡ v ∷ drop (held - depth) fields = drop-set fields j v there ∙ ap (λ k. v ∷ drop k fields) next in
-    let one : depth + 1 + 1 ≡ suc (depth + 1) = omega arith in
-    let grown : take (depth + 1) vals ≡ take depth vals ++ v ∷ [] = take_more vals depth Nothing within ∙ ap (λ x. take depth vals ++ x ∷ []) is in
-    ap (λ k. take (depth + 1 + 1) (drop k (set fields j v))) here ∙ (ap (take (depth + 1 + 1)) written ∙ (ap (λ k. take k (v ∷ drop (held - depth) fields)) one
-    ∙ (ap (λ q. v ∷ q) so_far ∙ (sym (reverse-append (last ∷ take depth vals) (v ∷ [])) ∙ ap (λ q. reverse (last ∷ q)) (sym grown)))))
 
 full_slot : (o : _) (v : Value) → Some v ≡ full_value o → o ≡ Some (Some v)
 full_slot None v e = absurd (cc)

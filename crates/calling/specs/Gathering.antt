@@ -11,6 +11,11 @@ pub record Gathers (n : ℕ) (ss : List Slot) (last : Value) (fields : List Valu
   pub long : length fields ≡ 6
   pub row : take (n + 1) fields ≡ reverse (last ∷ take n (values_in ss))
 
+-- the values of the n newest slots, the newest first
+pub record Newest (ss : List Slot) (n : ℕ) (values : List Value) : Type 0 where
+  pub within : n ≤ length ss
+  pub row : values ≡ take n (values_in ss)
+
 -- one of the n newest slots is not full
 pub record Misses (n : ℕ) (ss : List Slot) : Type 0 where
   pub depth : ℕ

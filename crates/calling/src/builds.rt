@@ -1,6 +1,6 @@
 // A constructor with fields is applied.
-ghost use Rattle.std.specs.Prelude.{◌≡◌, ℕ, ◌+◌, ◌<◌, ◌≤◌, List, [], ◌∷◌, drop, MatchOption};
-ghost use Rattle.calling.specs.Gathering.{Gathers, Misses};
+ghost use Rattle.std.specs.Prelude.{◌≡◌, ℕ, ◌+◌, ◌<◌, ◌≤◌, List, [], ◌∷◌, length, drop, MatchOption};
+ghost use Rattle.calling.specs.Gathering.{Gathers, Misses, Newest};
 ghost use Rattle.cells.specs.Meaning.{Cells};
 ghost use Rattle.data.specs.Trees.{Tree, none, more};
 ghost use Rattle.grammar.specs.Trees.{Exprs};
@@ -20,6 +20,16 @@ use machine::{Frame, Machine, Slot, value_at};
 use rules::FaultKind;
 use stack::Stack;
 
+// The values of the newest slots, the newest first, as many as the row has places.
+fn read_newest(slots: &Stack<'_, Slot>, row: &mut [Value]) -> Option<()>
+    ensures { MatchOption result (Misses (length row.old) (tops slots.now)) (λ _. Newest (tops slots.now) (length row.old) row.new) }
+{
+    for (depth, value) in row.iter_mut().enumerate() {
+        *value = value_at(slots, depth)?;
+    }
+    Some(())
+}
+
 // The arguments in their order: so many from the slots, and the last one.
 fn gather(slots: &Stack<'_, Slot>, held: usize, last: Value) -> Option<[Value; 6]>
     requires { held < 6 }
@@ -27,11 +37,10 @@ fn gather(slots: &Stack<'_, Slot>, held: usize, last: Value) -> Option<[Value; 6
 {
     let unit = Value::Unit;
     let mut fields = [unit; 6];
-    fields[held] = last;
-    // the newest slot is the last field but one: two ends, which an index says most plainly
-    for depth in 0..held {
-        fields[held - 1 - depth] = value_at(slots, depth)?;
-    }
+    fields[0] = last;
+    read_newest(slots, &mut fields[1..held + 1])?;
+    // the newest came first, and the fields begin with the oldest
+    fields[..held + 1].reverse();
     Some(fields)
 }
 
