@@ -14,6 +14,7 @@ fn give_list<S: CellStore>(store: &mut S, head: u32)
     ensures { (ns : List ℕ) → Links (S.CellStore.cells store.old) head ns → S.CellStore.cells store.new ≡ less ns (S.CellStore.cells store.old) }
 {
     let mut next = head;
+    // The list is threaded through the cells: the loop follows their numbers, and goes over no slice.
     'walk: while next != END {
         let Ok(contents) = look(store, next) else {
             return;

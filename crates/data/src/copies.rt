@@ -78,7 +78,7 @@ fn copy_data<S: CellStore>(store: &mut S, number: u32) -> Result<Value, Unfinish
     let mut finished = END;
     let mut count: u32 = 0;
     'walk: while waiting != END {
-        // The count is the walk's measure and its limit, no index.
+        // The list is threaded through the cells; the count is the walk's measure and its limit, no index.
         if count >= limit {
             return Err(Unfinished { waiting, finished });
         }

@@ -12,6 +12,7 @@ pub fn drop_value<S: CellStore>(store: &mut S, value: Value) -> Result<u32, Walk
 {
     let mut todo = Todo { value, rest: END };
     let mut count: u32 = 0;
+    // The list is threaded through the cells: the loop follows their numbers, and goes over no slice.
     'walk: while is_open(todo) {
         let cell = next_cell(todo);
         // not by `next_visit`, as in a size

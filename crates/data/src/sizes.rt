@@ -13,6 +13,7 @@ pub fn size_of<S: CellStore>(store: &mut S, value: Value) -> Result<u32, WalkRef
     let limit = store.capacity() as u32;
     let mut todo = Todo { value, rest: END };
     let mut count: u32 = 0;
+    // The list is threaded through the cells: the loop follows their numbers, and goes over no slice.
     'walk: while is_open(todo) {
         if count >= limit {
             return Err(WalkRefusal::Stuck);
