@@ -52,6 +52,8 @@ impl<'a> ChainStore<'a> {
     }
 }
 
+// Reading and writing are a line each, over what both stores share. `kept` is a clause of each call that changes the store:
+// what a call leaves as it was is no fact of one value.
 impl CellStore for ChainStore<'_> {
     ghost cells = { λ s. meant chain_cell s.slots.now };
 

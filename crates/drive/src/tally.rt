@@ -21,7 +21,7 @@ impl Tally {
         self.most = self.most.max(live);
     }
 
-    // Notes a refusal.
+    // Notes a refusal, of which each kind has its count: no number comes here.
     pub fn refuse(&mut self, refusal: StoreRefusal) {
         match refusal {
             StoreRefusal::DeadCell => self.dead = self.dead.saturating_add(1),

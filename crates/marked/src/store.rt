@@ -77,6 +77,8 @@ impl<'a> MarkedStore<'a> {
     }
 }
 
+// Reading and writing are a line each, over what both stores share. `kept` is a clause of each call that changes the store:
+// what a call leaves as it was is no fact of one value.
 impl CellStore for MarkedStore<'_> {
     ghost cells = { λ s. meant marked_cell s.slots.now };
 

@@ -1,4 +1,4 @@
-use Rattle.std.proofs.Common.{◌≡◌, ◌+◌, ◌-◌, ◌≤◌, set, is_some, None, Err, sym, refl, ap, ◌∙◌, subst, arith, rules}
+use Rattle.std.proofs.Common.{◌≡◌, ◌≤◌, set, is_some, None, Err, sym, refl, ap, subst, arith, rules}
 use Rattle.chain.specs.declared.slots.ChainSlot.TheVariants.{Free}
 use Rattle.chain.specs.Chains.{chain_cell}
 use Rattle.cells.specs.Lent.{front, meant}

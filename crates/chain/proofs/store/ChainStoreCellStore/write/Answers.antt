@@ -1,4 +1,3 @@
-use Rattle.std.proofs.Common.{refl}
 use Rattle.chain.proofs.ChainSteps.{written}
 use Rattle.chain.proofs.store.ChainStoreCellStore.write.Goals as goal
 

@@ -1,9 +1,9 @@
-use Rattle.std.proofs.Common.{◌≡◌, ◌+◌, ◌<◌, ◌≤◌, length, set, Some, sym, refl, ap, ◌∙◌, subst, arith, rules}
+use Rattle.std.proofs.Common.{◌+◌, ◌≤◌, set, Some, refl, arith, rules}
 use Rattle.cells.proofs.CellLaws.{count_full}
 use Rattle.cells.proofs.Calls.{taken_count, taken_room}
 use Rattle.cells.specs.Lent.{front, meant, meant_small}
-use Rattle.marked.specs.Marks.{marked_cell, NoneFree, FreeAt}
-use Rattle.cells.proofs.LentLaws.{front_length, front_set, front_used, kept_past, kept_size, meant_length}
+use Rattle.marked.specs.Marks.{marked_cell}
+use Rattle.cells.proofs.LentLaws.{front_length, front_set, kept_past, kept_size, meant_length}
 use Rattle.marked.proofs.MarkLaws.{all_marked, taken_mark}
 use Rattle.marked.proofs.store.MarkedStoreCellStore.take.Goals as goal
 
