@@ -1,4 +1,5 @@
 // A constructor with fields is applied.
+// `steady` is a clause of each row: what a call leaves as it was is no fact of one value.
 ghost use Rattle.std.specs.Prelude.{◌≡◌, ℕ, ◌+◌, ◌<◌, ◌≤◌, List, [], ◌∷◌, length, drop, MatchOption};
 ghost use Rattle.calling.specs.Gathering.{Gathers, Misses, Newest};
 ghost use Rattle.cells.specs.Meaning.{Cells};

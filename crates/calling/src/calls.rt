@@ -1,4 +1,5 @@
 // Calls of functions, of the basis or defined.
+// `steady` and `spares` are clauses of each row: what a call leaves as it was is no fact of one value.
 ghost use Rattle.std.specs.Prelude.{◌≡◌, ℕ, ◌+◌, ◌<◌, List, [], ◌∷◌, Some, length, drop};
 ghost use Rattle.std.specs.List.{slice_get};
 ghost use Rattle.calling.specs.Applying.{held_count};

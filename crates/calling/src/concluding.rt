@@ -1,4 +1,5 @@
 // An application of a function of the basis is concluded: its arguments leave, and it no longer waits.
+// `steady` and `spares` are clauses of each row: what a call leaves as it was is no fact of one value.
 ghost use Rattle.std.specs.Prelude.{◌≡◌, ℕ, List, []};
 ghost use Rattle.basis.specs.Printing.{printed};
 ghost use Rattle.calling.specs.Applying.{Says, SaysApplied};

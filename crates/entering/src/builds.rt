@@ -1,4 +1,5 @@
 // Entering an application of a constructor.
+// `steady` is a clause of each row: what a call leaves as it was is no fact of one value.
 ghost use Rattle.std.specs.Prelude.{◌≡◌, ℕ, ◌+◌, List};
 ghost use Rattle.cells.specs.Meaning.{Cells};
 ghost use Rattle.data.specs.Trees.{none};

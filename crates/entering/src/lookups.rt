@@ -1,4 +1,5 @@
 // Entering a name.
+// `steady` is a clause of each row: what a call leaves as it was is no fact of one value.
 ghost use Rattle.std.specs.Prelude.{◌≡◌, ℕ, List, Some};
 ghost use Rattle.std.specs.List.{slice_get};
 ghost use Rattle.cells.specs.Meaning.{Cells};

@@ -1,4 +1,5 @@
 // The head and the arguments of an application.
+// `steady` and `spares` are clauses of each row: what a call leaves as it was is no fact of one value.
 ghost use Rattle.std.specs.Prelude.{◌≡◌, ℕ, ◌+◌, List, ◌∷◌};
 ghost use Rattle.cells.specs.Meaning.{Cells};
 ghost use Rattle.data.specs.Trees.{Tree};

@@ -1,4 +1,5 @@
 // The tested value of a case.
+// `steady` is a clause of each row: what a call leaves as it was is no fact of one value.
 ghost use Rattle.std.specs.Prelude.{◌≡◌, ℕ, ◌<◌, List, ◌∷◌, Some};
 ghost use Rattle.cells.specs.Meaning.{Cells, at as at_cell};
 ghost use Rattle.cells.specs.declared.records.CellRecord.{CellRecord as Record};

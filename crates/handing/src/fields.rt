@@ -1,4 +1,5 @@
 // The fields of tested data are bound to the names of a pattern, and those under `_` are dropped.
+// `room` is a clause of each: what a call leaves as it was is no fact of one value.
 ghost use Rattle.std.specs.Prelude.{◌≡◌, ℕ, ◌+◌, ◌<◌, ◌≤◌, true, false, List, ◌∷◌, ◌++◌, map, length, Some};
 ghost use Rattle.cells.specs.Meaning.{Cells};
 ghost use Rattle.cells.specs.Records.{row};

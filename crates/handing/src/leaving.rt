@@ -1,4 +1,5 @@
 // The end of a let, a branch and a function: names leave.
+// `steady` and `room` are clauses of each row: what a call leaves as it was is no fact of one value.
 ghost use Rattle.std.specs.Prelude.{◌≡◌, ℕ, ◌++◌, ◌≤◌, List, ◌∷◌, length, Some};
 ghost use Rattle.cells.specs.Meaning.{Cells};
 ghost use Rattle.cells.specs.declared.values.Value.{Value as Held};

@@ -1,4 +1,5 @@
 // Parts of an if, a begin and a let.
+// `steady` is a clause of each row: what a call leaves as it was is no fact of one value.
 ghost use Rattle.std.specs.Prelude.{◌≡◌, ℕ, List, ◌∷◌};
 ghost use Rattle.cells.specs.Meaning.{Cells};
 ghost use Rattle.data.specs.Trees.{Tree};

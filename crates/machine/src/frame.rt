@@ -1,6 +1,6 @@
 // An entry of the first stack: a waiting expression, by its own node and its progress.
 
-// How many arguments an application holds.
+// How many arguments an application holds: three cases, so no option.
 #[derive(Clone, Copy)]
 pub enum Held {
     None,

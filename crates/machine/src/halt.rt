@@ -7,6 +7,7 @@ use basis::Basis;
 use rules::FaultKind;
 use stack::Full;
 
+// Both cases stop the step, so neither is an error beside a value.
 #[derive(Clone, Copy, PartialEq, Eq)]
 pub enum Halt {
     // it faults, for arithmetic in this function of the basis

@@ -1,4 +1,5 @@
 // The calls that every step ends in: what they answer is what the step came to. Only wait can fail.
+// `steady` is a clause of each: what a call leaves as it was is no fact of one value.
 ghost use Rattle.std.specs.Prelude.{◌≡◌, ℕ, List, [], ◌∷◌, Ok};
 ghost use Rattle.cells.specs.Meaning.{Cells};
 ghost use Rattle.data.specs.Trees.{Tree, none, more};

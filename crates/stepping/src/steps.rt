@@ -1,4 +1,5 @@
 // A step.
+// `steady` and `spares` are clauses of each row: what a call leaves as it was is no fact of one value.
 ghost use Rattle.std.specs.Prelude.{◌≡◌, ℕ};
 ghost use Rattle.cells.specs.Meaning.{Cells};
 ghost use Rattle.machine.specs.Mirrors.{Mirrors, Printed, Spares, Steady};
