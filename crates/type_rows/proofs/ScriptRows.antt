@@ -6,7 +6,7 @@ use Rattle.std.proofs.lemmas.List.{append-nil, length-append, get_or_append_left
 use Rattle.basis.specs.Numbers.{numbered}
 use Rattle.basis.specs.declared.function.Basis.{Basis}
 use Rattle.basis.specs.declared.function.Basis.TheVariants.{EqualInt, EqualBool, EqualSym, EqualUnit, Add, Subtract, Multiply, Divide, Remainder, UnsignedDivide, UnsignedRemainder, Negate, Greater, Less, GreaterOrEqual, LessOrEqual, Not, And, Or, Xor, BitAnd, BitOr, BitXor, ShiftLeft, ShiftRight, Complement, PrintInt, PrintBool, PrintSym, PrintUnit, PrintNewline, PrintAscii, Input}
-use Rattle.grammar.specs.Limits.{type_count, types_count, types_length}
+use Rattle.grammar.specs.Limits.{type_count, types_count, types_length, fields_count}
 use Rattle.grammar.specs.Trees as tree
 use Rattle.grammar.specs.Trees.{TypeExpr, TypeExprs, Constructor, datatype_definition, type_annotation, function_definition, val_binding, Script}
 use Rattle.layout.proofs.Lists.{Has, has_first, has_others, has_front, has_back}
@@ -34,6 +34,10 @@ mutual
   pub length_inners : (ts : TypeExprs) → length (inners ts) ≡ types_count ts
   length_inners tree.no_types = refl
   length_inners (tree.and_type t ts) = omega (arith, length-append (inner t) (inners ts), length_inner t, length_inners ts)
+
+pub length_fields : (cs : List Constructor) → length (field_types cs) ≡ fields_count cs
+length_fields [] = refl
+length_fields (c ∷ cs) = omega (arith, length-append (inners c.fields) (field_types cs), length_inners c.fields, length_fields cs)
 
 -- a type expression stands before all that it holds
 pub inner_first : (t : TypeExpr) → (r : List TypeExpr) × (inner t ≡ t ∷ r)

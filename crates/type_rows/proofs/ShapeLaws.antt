@@ -1,5 +1,5 @@
 -- The shapes of a type tell it.
-use Rattle.std.proofs.Common.{◌≡◌, ℕ, Bool, true, false, MatchBool, List, [], ◌∷◌, ◌++◌, length, get_or, sym, refl, ap, ◌∙◌, append_assoc, arith}
+use Rattle.std.proofs.Common.{◌≡◌, ℕ, Bool, true, false, MatchBool, List, [], ◌∷◌, ◌++◌, length, get_or, sym, refl, ap, ◌∙◌, subst, append_assoc, arith}
 use Rattle.std.specs.Str.{bytes_eq}
 use Rattle.std.proofs.lemmas.Bool.{false≢true}
 use Rattle.std.proofs.lemmas.List.{ext_get_or}
@@ -112,10 +112,12 @@ module _ (rows : List Row) (m : ℕ → Ty) where
   function_same means x y j k false n = sym (not_same (m x) (m y) (λ e. n (alike x y (means x j.0 j.1) (means y k.0 k.1) e)))
 
   -- a function type and another one
-  pub function_other : RowsMean rows m → (x : ℕ) → IsKind rows (value.Function x) → (b : ValueType) → ((y : ℕ) → b ≡ value.Function y → ⊥) → false ≡ same_type (m x) (ty m b)
-  function_other means x j b n =
-      let f = means x j.0 j.1 in
-      sym (not_same (m x) (ty m b) (λ e. plain_function m b n (m x) f.parameters f.value f.meant (sym e)))
+  pub function_other : RowsMean rows m → (a b : ValueType) (x : ℕ) → a ≡ value.Function x → IsKind rows a → ((y : ℕ) → b ≡ value.Function y → ⊥) → (r : Bool) → ((r ≡ true → a ≡ b) × (a ≡ b → r ≡ true)) → r ≡ same_type (ty m a) (ty m b)
+  function_other means a b x is j n true e = absurd (n x (sym (e.0 refl) ∙ is))
+  function_other means a b x is j n false e =
+      let k = subst (IsKind rows) is j in
+      let f = means x k.0 k.1 in
+      sym (not_same (ty m a) (ty m b) (λ q. plain_function m b n (ty m a) f.parameters f.value (ap (ty m) is ∙ f.meant) (sym q)))
 
   -- two types of which the first is no function type
   pub plain_same : RowsMean rows m → (a b : ValueType) → ((x : ℕ) → a ≡ value.Function x → ⊥) → IsKind rows b → (r : Bool) → ((r ≡ true → a ≡ b) × (a ≡ b → r ≡ true)) → r ≡ same_type (ty m a) (ty m b)

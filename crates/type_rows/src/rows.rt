@@ -52,7 +52,7 @@ impl Rows {
         put(&mut self.rows, k, row);
     }
 
-    // Whether two rows and their parts look the same.
+    // Whether two rows and their parts look the same. The parts stand in the table, which no derive sees.
     fn look_same(&self, x: u16, y: u16) -> bool
         ensures { MatchBool result (LookSame self.now.rows x y) (LookSame self.now.rows x y → ⊥) }
     {
@@ -71,11 +71,8 @@ impl Rows {
     pub fn same(&self, a: ValueType, b: ValueType) -> bool
         ensures { (m : ℕ → Ty) → RowsMean self.now.rows m → IsKind self.now.rows a → IsKind self.now.rows b → result ≡ same_type (ty m a) (ty m b) }
     {
-        match a {
-            ValueType::Function(x) => match b {
-                ValueType::Function(y) => self.look_same(x, y),
-                _ => false,
-            },
+        match (a, b) {
+            (ValueType::Function(x), ValueType::Function(y)) => self.look_same(x, y),
             _ => a == b,
         }
     }
