@@ -5,18 +5,16 @@ use Rattle.std.specs.Option.{is_some}
 use Rattle.std.specs.Str.{bytes_eq}
 use Rattle.std.proofs.lemmas.Bool.{or_left, or_right, or_from}
 use Rattle.std.proofs.lemmas.List.{reverse-append}
+use Rattle.std.proofs.lemmas.Option.{same_Some}
 use Rattle.std.proofs.lemmas.Slice.Eq.{bytes_eq-Decides}
 use Rattle.names.specs.Indexing.{Finds}
 use Rattle.program.specs.Programs.{Name}
 use Rattle.typing.specs.Verdict.{among_them}
 use Rattle.typing.proofs.TypeRows.{bytes_same}
 
-some_same : {X : Type 0} (x y : X) → Some x ≡ Some y → x ≡ y
-some_same x y e = cc
-
 pub among_found : (w : Name) (xs : List Name) (k : ℕ) → slice_get xs k ≡ Some w → among_them w xs ≡ true
 among_found w [] k e = absurd (let z : ◌≡◌ {A = ℕ} 0 1 = cc in omega arith)
-among_found w (x ∷ xs) zero e = or_left (bytes_eq w x) (among_them w xs) (ap (bytes_eq w) (some_same x w e) ∙ bytes_same w)
+among_found w (x ∷ xs) zero e = or_left (bytes_eq w x) (among_them w xs) (ap (bytes_eq w) (same_Some x w e) ∙ bytes_same w)
 among_found w (x ∷ xs) (suc k) e = or_right (bytes_eq w x) (among_them w xs) (among_found w xs k e)
 
 pub among_nothing : (w : Name) (xs : List Name) → ((k : ℕ) → slice_get xs k ≡ Some w → ⊥) → among_them w xs ≡ false

@@ -3,6 +3,7 @@ use Rattle.std.proofs.Common.{◌≡◌, ℕ, zero, suc, ◌+◌, Bool, true, fa
 use Rattle.std.specs.List.{slice_get}
 use Rattle.std.specs.Option.{is_some}
 use Rattle.std.specs.Str.{bytes_eq}
+use Rattle.std.proofs.lemmas.Option.{same_Some}
 use Rattle.std.proofs.lemmas.Slice.Eq.{bytes_eq-Decides}
 use Rattle.globals.specs.Tallies.{bound_names}
 use Rattle.grammar.specs.Trees.{Ident, Constructor, datatype_definition, type_annotation, function_definition, val_binding, Script}
@@ -10,9 +11,6 @@ use Rattle.program.specs.Programs as means
 use Rattle.program.specs.Programs.{Name, Program, Bound, Define, Global, first_of, bound_variants, bound_from, defines_of, basis_count, program}
 use Rattle.typing.specs.Scripts.{Distinct, basis_names}
 use Rattle.globals.proofs.Firsts.{first_some}
-
-some_same : {X : Type 0} (x y : X) → Some x ≡ Some y → x ≡ y
-some_same x y e = cc
 
 pub none_some : {X Y : Type 0} (x : X) → ◌≡◌ {A = Option X} None (Some x) → Y
 none_some x e = absurd (let z : ◌≡◌ {A = ℕ} 0 1 = cc in omega arith)
@@ -39,7 +37,7 @@ define_bound (datatype_definition p x cs ∷ ds) c f v j d e =
     (length cs + h.0, behind_variants c cs _ h.0 ∙ h.1)
 define_bound (type_annotation p x t ∷ ds) c f v j d e = define_bound ds c f v j d e
 define_bound (function_definition p x ps b ∷ ds) c f v zero d e =
-    let s : record { place = p; name = x; parameters = ps; body = b } ≡ d = some_same _ d e in
+    let s : record { place = p; name = x; parameters = ps; body = b } ≡ d = same_Some _ d e in
     (0, ap (λ (d : Define). Some (bound_define d f)) s ∙ ap (λ n. Some (bound_define d n)) (let q : f ≡ f + 0 = omega arith in q))
 define_bound (function_definition p x ps b ∷ ds) c f v (suc j) d e =
     let h = define_bound ds c (f + 1) v j d e in
@@ -55,7 +53,7 @@ bound_is_define (datatype_definition p x cs ∷ ds) c f v k g b e m =
     bound_is_define ds (c + length cs) f v r.0 g b r.1 m
 bound_is_define (type_annotation p x t ∷ ds) c f v k g b e m = bound_is_define ds c f v k g b e m
 bound_is_define (function_definition p x ps body ∷ ds) c f v zero g b e m =
-    let s : record { name = x; meaning = means.function f } ≡ b = some_same _ b e in
+    let s : record { name = x; meaning = means.function f } ≡ b = same_Some _ b e in
     (0, record { place = p; name = x; parameters = ps; body = body }, refl, ap (λ (b : Bound). b.name) s, number (ap (λ (b : Bound). b.meaning) s ∙ m))
   where
     number : means.function f ≡ means.function g → g ≡ f + 0
@@ -73,7 +71,7 @@ first_number name w [] x e = none_some x e
 first_number name w (y ∷ xs) x e = go (bytes_eq w (name y).bytes) refl e (first_number name w xs x)
   where
     go : (b : Bool) → bytes_eq w (name y).bytes ≡ b → cond b (Some y) (first_of name w xs) ≡ Some x → (first_of name w xs ≡ Some x → (j : ℕ) × (slice_get xs j ≡ Some x) × ((name x).bytes ≡ w)) → (j : ℕ) × (slice_get (y ∷ xs) j ≡ Some x) × ((name x).bytes ≡ w)
-    go true q e more = let s : y ≡ x = some_same y x e in (0, e, ap (λ z. (name z).bytes) (sym s) ∙ sym ((bytes_eq-Decides w (name y).bytes).0 q))
+    go true q e more = let s : y ≡ x = same_Some y x e in (0, e, ap (λ z. (name z).bytes) (sym s) ∙ sym ((bytes_eq-Decides w (name y).bytes).0 q))
     go false q e more = let m = more e in (suc m.0, m.1, m.2)
 
 pub first_exists : {X : Type 0} (name : X → Ident) (w : Name) (xs : List X) (j : ℕ) (x : X) → slice_get xs j ≡ Some x → (name x).bytes ≡ w → is_some (first_of name w xs) ≡ true
@@ -82,7 +80,7 @@ first_exists name w (y ∷ xs) j x e n = go (bytes_eq w (name y).bytes) refl j e
   where
     go : (b : Bool) → bytes_eq w (name y).bytes ≡ b → (j : ℕ) → slice_get (y ∷ xs) j ≡ Some x → ((j : ℕ) (x : _) → slice_get xs j ≡ Some x → (name x).bytes ≡ w → is_some (first_of name w xs) ≡ true) → is_some (cond b (Some y) (first_of name w xs)) ≡ true
     go true q j e more = refl
-    go false q zero e more = absurd (let z : ◌≡◌ {A = Bool} false true = sym q ∙ (bytes_eq-Decides w (name y).bytes).1 (sym (ap (λ z. (name z).bytes) (some_same y x e) ∙ n)) in let o : ◌≡◌ {A = ℕ} 0 1 = cc in omega arith)
+    go false q zero e more = absurd (let z : ◌≡◌ {A = Bool} false true = sym q ∙ (bytes_eq-Decides w (name y).bytes).1 (sym (ap (λ z. (name z).bytes) (same_Some y x e) ∙ n)) in let o : ◌≡◌ {A = ℕ} 0 1 = cc in omega arith)
     go false q (suc j) e more = more j x e n
 
 pub by_some : {X : Type 0} (o : Option X) → ((x : X) → o ≡ Some x → ⊥) → is_some o ≡ false
@@ -105,7 +103,7 @@ module _ (script : Script) (once : Distinct basis_names (bound_names (program sc
       (basis_count + f.0, ap (λ v. first_of (λ (b : Bound). b.name) v (program script).bound) (sym f.2) ∙ first_some (λ (b : Bound). b.name) basis_names (program script).bound b.0 (bound_define d (basis_count + f.0)) once b.1)
 
   pub no_define : (b : Bound) → first_of (λ b. b.name) w (program script).bound ≡ Some b → ((g : ℕ) → b.meaning ≡ means.function g → ⊥) → is_some (first_of (λ (d : Define). d.name) w (program script).defines) ≡ false
-  no_define b e n = by_some _ (λ d q. let f = define_first d q in n f.0 (ap (λ (b : Bound). b.meaning) (some_same b _ (sym e ∙ f.1))))
+  no_define b e n = by_some _ (λ d q. let f = define_first d q in n f.0 (ap (λ (b : Bound). b.meaning) (same_Some b _ (sym e ∙ f.1))))
 
   pub not_define : first_of (λ b. b.name) w (program script).bound ≡ None → is_some (first_of (λ (d : Define). d.name) w (program script).defines) ≡ false
   not_define e = by_some _ (λ d q. let f = define_first d q in none_some _ (sym e ∙ f.1))

@@ -3,7 +3,7 @@ use Rattle.std.proofs.Common.{◌≡◌, ℕ, zero, suc, ◌+◌, ◌<◌, ◌�
 use Rattle.std.proofs.lemmas.List.{length-append, length-map, get_or_append_left}
 use Rattle.globals.specs.Lying.{VariantLies, VariantsLie, ParametersLie, DefinitionLies, datatype_lies, annotation_lies, define_lies, val_lies, definition_at, ScriptLies, TypeNodeLies, int_lies, bool_lies, sym_lies, unit_lies, named_lies, function_lies, type_at, TypesLaid, Laid}
 use Rattle.grammar.specs.Grammar.{Derives}
-use Rattle.grammar.specs.Limits.{type_count, types_count, fields_count, nodes_of, types_of, bindings_of, datatypes_of, constructors_of, total, Within}
+use Rattle.grammar.specs.Limits.{type_count, types_count, nodes_of, types_of, bindings_of, datatypes_of, constructors_of, total, Within}
 use Rattle.grammar.specs.Trees as tree
 use Rattle.grammar.specs.Trees.{Ident, TypeExpr, TypeExprs, datatype_definition, type_annotation, function_definition, val_binding, Script}
 use Rattle.layout.specs.Spelling.{Spells}
@@ -21,7 +21,7 @@ use Rattle.layout.proofs.Lists.{Has, has_first, has_others, has_front, has_back,
 use Rattle.layout.proofs.ScriptStanding.{length_constructors}
 use Rattle.type_rows.specs.TypeExprs.{inner, inners, field_types, types_listed, expr_at}
 use Rattle.layout.proofs.Standing.{type_some}
-use Rattle.type_rows.proofs.ScriptRows.{length_inner, length_inners}
+use Rattle.type_rows.proofs.ScriptRows.{length_inner, length_inners, length_fields}
 
 -- Definitions.
 module _ (text : List ℕ) (tables : Tables) where
@@ -120,10 +120,6 @@ mutual
   encodes_indexed i tree.no_types = refl
   encodes_indexed i (tree.and_type t ts) =
       ap (λ l. l ++ encode_types (i + type_count t) ts) (encode_indexed i t) ∙ ap (λ l. indexed i (inner t) ++ l) (encodes_indexed (i + type_count t) ts ∙ ap (λ n. indexed (i + n) (inners ts)) (sym (length_inner t))) ∙ sym (indexed_append i (inner t) (inners ts))
-
-pub length_fields : (cs : List tree.Constructor) → length (field_types cs) ≡ fields_count cs
-length_fields [] = refl
-length_fields (c ∷ cs) = let a = length-append (inners c.fields) (field_types cs) in let b = length_inners c.fields in let h = length_fields cs in omega arith
 
 fields_indexed : (i : ℕ) (cs : List tree.Constructor) → field_nodes i cs ≡ indexed i (field_types cs)
 unfolding indexed

@@ -2,7 +2,7 @@
 use Rattle.std.proofs.Common.{◌≡◌, ℕ, zero, suc, ◌+◌, List, [], ◌∷◌, ◌++◌, map, length, take, get_or, Some, sym, refl, ap, ◌∙◌, subst, append_assoc, arith, take_at}
 use Rattle.std.specs.List.{slice_get}
 use Rattle.std.proofs.lemmas.List.{append-nil, length-append, get_or-take}
-use Rattle.std.proofs.lemmas.Option.{slice_get_within}
+use Rattle.std.proofs.lemmas.Option.{same_Some, slice_get_within}
 use Rattle.globals.specs.Names.{StandsAt, IsVariant, no_variant, Named}
 use Rattle.globals.specs.Tallies.{Tally, no_tally, bound_names, annotated_names, meaning_of, tallied, tallied_all, variant_codes, Holds}
 use Rattle.globals.specs.declared.declarations.Declarations.{Declarations}
@@ -16,7 +16,7 @@ use Rattle.layout.proofs.Lists.{Has, has_front, has_back}
 use Rattle.program.specs.Programs as means
 use Rattle.program.specs.Programs.{Bound, Annotation, Variant, bound_variants, bound_from, annotations_of, datatypes_of, variants, variants_from, program}
 use Rattle.type_rows.specs.TypeExprs.{inner, inners, field_types, types_listed}
-use Rattle.type_rows.proofs.ScriptRows.{length_inner, length_inners}
+use Rattle.type_rows.proofs.ScriptRows.{length_inner, length_inners, length_fields}
 use Rattle.typing.specs.Scripts.{basis_names, bytes_of}
 use Rattle.typing.specs.Verdict.{accepted, once_all}
 use Rattle.typing.proofs.Verdicts.{all_once}
@@ -87,15 +87,8 @@ variants_in_all (type_annotation p x e ∷ ds) c t = variants_in_all ds (after c
 variants_in_all (function_definition p x ps e ∷ ds) c t = variants_in_all ds (after c (function_definition p x ps e)) (tallied c (function_definition p x ps e) t)
 variants_in_all (val_binding p x e ∷ ds) c t = variants_in_all ds (after c (val_binding p x e)) (tallied c (val_binding p x e) t)
 
-some_same : {X : Type 0} (x y : X) → Some x ≡ Some y → x ≡ y
-some_same x y e = cc
-
 stands_by : (all : List TypeExpr) (i : ℕ) (ys : List TypeExpr) → Has all i ys → StandsAt all i ys
 stands_by all i ys h = ap (take (length ys)) h.is ∙ take_at ys h.rest (length ys) refl
-
-length_fields : (cs : List tree.Constructor) → length (field_types cs) ≡ fields_count cs
-length_fields [] = refl
-length_fields (c ∷ cs) = let a = length-append (inners c.fields) (field_types cs) in let b = length_inners c.fields in let h = length_fields cs in omega arith
 
 module _ (all : List TypeExpr) where
   root_at : (ds : Script) (c : Counts) (k : ℕ) (a : Annotation) → Has all c.types (types_listed ds) → slice_get (annotations_of ds) k ≡ Some a → StandsAt all (get_or (root_codes c ds) k 0) (inner a.type)
@@ -103,7 +96,7 @@ module _ (all : List TypeExpr) where
   root_at [] c k a h e = absurd (let z : ◌≡◌ {A = ℕ} 0 1 = cc in omega arith)
   root_at (datatype_definition p x cs ∷ ds) c k a h e = root_at ds (after c (datatype_definition p x cs)) k a (has_back (field_types cs) (types_listed ds) (fields_count cs) (length_fields cs) h) e
   root_at (type_annotation p x t ∷ ds) c zero a h e =
-      let s : record { name = x; type = t } ≡ a = some_same _ a e in
+      let s : record { name = x; type = t } ≡ a = same_Some _ a e in
       subst (λ (a : Annotation). StandsAt all c.types (inner a.type)) s (stands_by all c.types (inner t) (has_front (inner t) (types_listed ds) h))
   root_at (type_annotation p x t ∷ ds) c (suc k) a h e = root_at ds (after c (type_annotation p x t)) k a (has_back (inner t) (types_listed ds) (type_count t) (length_inner t) h) e
   root_at (function_definition p x ps b ∷ ds) c k a h e = root_at ds (after c (function_definition p x ps b)) k a (subst (λ i. Has all i (types_listed ds)) (let q : c.types ≡ c.types + 0 = omega arith in q) h) e
@@ -113,7 +106,7 @@ module _ (all : List TypeExpr) where
       → ((j : ℕ) → slice_get rest j ≡ Some v → IsVariant all (get_or codes j no_variant) v) → IsVariant all (get_or (variant_codes d i cs ++ codes) k no_variant) v
   variant_at [] d i rest codes k v h e more = more k e
   variant_at (c ∷ cs) d i rest codes zero v h e more =
-      let s : record { name = c.name; datatype = d; fields = c.fields } ≡ v = some_same _ v e in
+      let s : record { name = c.name; datatype = d; fields = c.fields } ≡ v = same_Some _ v e in
       subst (IsVariant all record { datatype = d; first = i; past = i + types_count c.fields; fields = types_length c.fields }) s
       record { datatype = refl; fields = refl; past = refl; types = stands_by all i (inners c.fields) (has_front (inners c.fields) (field_types cs) h) }
   variant_at (c ∷ cs) d i rest codes (suc k) v h e more = variant_at cs d (i + types_count c.fields) rest codes k v (has_back (inners c.fields) (field_types cs) (types_count c.fields) (length_inners c.fields) h) e more

@@ -29,10 +29,7 @@ impl Declarations {
         let Some(k) = self.bound.find(text, name) else {
             return false;
         };
-        let Some(meaning) = self.meanings[k] else {
-            return false;
-        };
-        matches!(meaning, Global::Function(_))
+        matches!(self.meanings[k], Some(Global::Function(_)))
     }
 
     // The type node of the type that a name is annotated with.

@@ -18,7 +18,6 @@ use type_rows::{Row, Rows, Shape};
 const TYPES: usize = 512;
 
 // The parts of a function type: how many parameters it has, and the row of its result type.
-// A walk from part to part finds them: its last place and its count are both wanted, and an iterator would give one of them.
 #[derive(Clone, Copy)]
 struct Parts {
     count: u16,
@@ -26,38 +25,32 @@ struct Parts {
 }
 
 // The number of the type node after one and its parts.
-fn after(tables: &Tables, at: usize) -> usize
-    requires { at < 65536 }
+fn after(tables: &Tables, at: u16) -> usize
     ensures value { result ≡ max (type_at tables.now at).past (at + 1) }
     ensures rises { at < result }
-    ensures within { result ≤ 65536 }
 {
-    (type_at(tables, at).past as usize).max(at + 1)
+    (type_at(tables, at).past as usize).max(at as usize + 1)
 }
 
-fn parts_of(tables: &Tables, k: usize) -> Parts
-    requires { k < 512 }
+fn parts_of(tables: &Tables, k: u16) -> Parts
     ensures { (text : List ℕ) (script : Script) (p : ℕ) (ts : TypeExprs) (t : TypeExpr) → TypesLaid text tables.now (types_listed script) → k < length (types_listed script) → expr_at (types_listed script) k ≡ function_type_rule p ts t → HasParts k ts result }
 {
     let past = type_at(tables, k).past as usize;
-    let mut at = k + 1;
+    let mut at = k.saturating_add(1);
     let mut count: u16 = 0;
+    // A walk from part to part: its last place and its count are both wanted, and an iterator would give one of them.
     'parts: loop {
         let next = after(tables, at);
         if next >= past {
-            return Parts {
-                count,
-                result: at as u16,
-            };
+            return Parts { count, result: at };
         }
-        at = next;
+        at = next as u16;
         count += 1;
     }
 }
 
-// The shape of the type expression at a type node.
-fn shape_of(parsed: &Parsed<'_>, declared: &Declarations, k: usize) -> Result<Shape, Refused>
-    requires { k < 512 }
+// The shape of the type expression at a type node. No conversion of its form: a datatype's name is looked up, and may be refused.
+fn shape_of(parsed: &Parsed<'_>, declared: &Declarations, k: u16) -> Result<Shape, Refused>
     ensures { (P : Program) (script : Script) → TypesLaid parsed.now.text.now parsed.now.tables.now (types_listed script) → HasDatatypes parsed.now.text.now declared.now P → k < length (types_listed script) → IsShape P (expr_at (types_listed script) k) result }
 {
     let node = type_at(parsed.tables, k);
@@ -83,8 +76,7 @@ fn shape_of(parsed: &Parsed<'_>, declared: &Declarations, k: usize) -> Result<Sh
 }
 
 // The row of the result type, for a function type.
-fn result_row(tables: &Tables, k: usize) -> u16
-    requires { k < 512 }
+fn result_row(tables: &Tables, k: u16) -> u16
     ensures { (text : List ℕ) (script : Script) → TypesLaid text tables.now (types_listed script) → k < length (types_listed script) → result ≡ row_of_result k (expr_at (types_listed script) k) }
 {
     match type_at(tables, k).form {
@@ -98,7 +90,7 @@ pub(crate) fn resolve(parsed: &Parsed<'_>, declared: &Declarations) -> Result<Ro
     ensures { (P : Program) (script : Script) → TypesLaid parsed.now.text.now parsed.now.tables.now (types_listed script) → HasDatatypes parsed.now.text.now declared.now P → IsResolved P (types_listed script) result }
 {
     let mut rows = Rows::new();
-    let count = parsed.tables.counts.types.min(TYPES);
+    let count = parsed.tables.counts.types.min(TYPES) as u16;
     // By number: it is the row's, and each row looks at the nodes behind its own.
     for k in 0..count {
         let row = Row {
@@ -106,7 +98,7 @@ pub(crate) fn resolve(parsed: &Parsed<'_>, declared: &Declarations) -> Result<Ro
             past: type_at(parsed.tables, k).past,
             result: result_row(parsed.tables, k),
         };
-        rows.put(k, row);
+        rows.put(k as usize, row);
     }
     Ok(rows)
 }

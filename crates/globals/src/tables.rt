@@ -30,8 +30,12 @@ pub(crate) fn constructor_at(tables: &Tables, k: usize) -> Constructor
         .unwrap_or(Constructor::UNUSED)
 }
 
-pub(crate) fn type_at(tables: &Tables, k: usize) -> TypeNode
+pub(crate) fn type_at(tables: &Tables, k: u16) -> TypeNode
     ensures { result ≡ slice_index_or tables.now.types k unused_type }
 {
-    tables.types.get(k).copied().unwrap_or(TypeNode::UNUSED)
+    tables
+        .types
+        .get(k as usize)
+        .copied()
+        .unwrap_or(TypeNode::UNUSED)
 }

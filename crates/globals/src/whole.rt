@@ -80,15 +80,11 @@ impl Globals {
     fn has_main(&self, text: &[u8]) -> bool
         ensures { (script : Script) → Known text.now self.now script → told_main (main_stands (program script) (first_of (λ d. d.name) (codes "main") (program script).defines)) result }
     {
-        let Some(main) = self.named(text, b"main") else {
+        let Some(Global::Function(n)) = self.named(text, b"main") else {
             return false;
         };
-        match main {
-            Global::Function(n) => self
-                .rows
-                .same(self.function_type(n), basis_type(Basis::PrintNewline)),
-            _ => false,
-        }
+        self.rows
+            .same(self.function_type(n), basis_type(Basis::PrintNewline))
     }
 
     // All that a script declares, by the rules for the whole of it: names once, then types, then defines and annotations by pairs, then main.

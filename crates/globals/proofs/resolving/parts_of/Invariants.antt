@@ -7,7 +7,6 @@ use Rattle.globals.proofs.resolving.parts_of.Given as goal
 
 abbrev pub invariant-parts : goal.invariant-parts
 invariant-parts l = record {
-  within : l.at < 65536;
   few : l.count < l.at;
   left : (text : List ℕ) (script : Script) (p : ℕ) (ts : TypeExprs) (t : TypeExpr) → TypesLaid text l.tables (types_listed script) → l.k < length (types_listed script) → expr_at (types_listed script) l.k ≡ function_type_rule p ts t
       → PartsLeft (types_listed script) l.k ts t l.at l.count;
