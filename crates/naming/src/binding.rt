@@ -102,19 +102,13 @@ pub fn bind_parameters(
 ) -> Result<(), Refused>
     ensures { OnParameters world.now tables.now first past row (desk scope.old locals.old) result (desk scope.new locals.new) }
 {
-    if first >= past {
-        return Ok(());
-    }
     let rows = world.globals.rows();
-    let word = word_at(&tables.parameters, first as usize);
-    bind(world, word, rows.kind(row), scope.depth, scope, locals)?;
-    bind_parameters(
-        world,
-        tables,
-        first + 1,
-        past,
-        rows.row(row as usize).past,
-        scope,
-        locals,
-    )
+    let mut row = row;
+    // By number: that the table has so many entries is not known here, and past its end a word of no bytes is read.
+    for k in first..past {
+        let word = word_at(&tables.parameters, k as usize);
+        bind(world, word, rows.kind(row), scope.depth, scope, locals)?;
+        row = rows.row(row as usize).past;
+    }
+    Ok(())
 }

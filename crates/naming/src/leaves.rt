@@ -67,18 +67,19 @@ fn global_name(
 ) -> Result<ValueType, Refused>
     ensures { OnGlobal world.now name.now i node codes.old result codes.new }
 {
-    match world.globals.named(world.text, name) {
-        Some(Global::Function(n)) => {
+    let unknown = refused(Refusal::Unknown, node.place);
+    let global = world.globals.named(world.text, name).ok_or(unknown)?;
+    match global {
+        Global::Function(n) => {
             note(codes, i, node, Op::Function(n));
             Ok(world.globals.function_type(n))
         }
-        Some(Global::Constructor(_)) => Err(mismatch(node.place)),
-        Some(Global::Val(k)) => {
-            let kind = val_at(world.vals, k).ok_or(refused(Refusal::Unknown, node.place))?;
+        Global::Constructor(_) => Err(mismatch(node.place)),
+        Global::Val(k) => {
+            let kind = val_at(world.vals, k).ok_or(unknown)?;
             note(codes, i, node, Op::Val(k));
             Ok(kind)
         }
-        None => Err(refused(Refusal::Unknown, node.place)),
     }
 }
 
@@ -103,18 +104,16 @@ pub fn name(
             size,
         },
     );
-    match find(world.text, locals, scope.depth, name) {
-        Some(k) => {
-            if scope.is_marked(k) {
-                return Err(refused(Refusal::Consumed, node.place));
-            }
-            let local = local_at(locals, k);
-            consume(scope, k, local.kind);
-            note(codes, i, node, Op::Local(distance(height, local.height)));
-            Ok(local.kind)
-        }
-        None => global_name(world, i, node, name, codes),
+    let Some(k) = find(world.text, locals, scope.depth, name) else {
+        return global_name(world, i, node, name, codes);
+    };
+    if scope.is_marked(k) {
+        return Err(refused(Refusal::Consumed, node.place));
     }
+    let local = local_at(locals, k);
+    consume(scope, k, local.kind);
+    note(codes, i, node, Op::Local(distance(height, local.height)));
+    Ok(local.kind)
 }
 
 // Why a name that no local has is not dupped, in a form at a place.
@@ -122,12 +121,10 @@ fn no_dup(world: &World<'_>, place: u16, word: Word, name: &[u8]) -> Refused
     ensures { (script : Script) → Setting world.now script → dup_global (vals_of world.now script) place word.place (global_of (program script) name.now) ≡ judging.refused result }
 {
     match world.globals.named(world.text, name) {
-        Some(Global::Function(_)) => mismatch(place),
-        Some(Global::Constructor(_)) => mismatch(place),
-        Some(Global::Val(k)) => match val_at(world.vals, k) {
-            Some(_) => mismatch(place),
-            None => refused(Refusal::Unknown, word.place),
-        },
+        Some(Global::Val(k)) if val_at(world.vals, k).is_none() => {
+            refused(Refusal::Unknown, word.place)
+        }
+        Some(_) => mismatch(place),
         None => refused(Refusal::Unknown, word.place),
     }
 }
@@ -146,15 +143,13 @@ pub fn dup(
 {
     let node = node_at(world.nodes, i);
     let name = part(world.text, word);
-    match find(world.text, locals, scope.depth, name) {
-        Some(k) => {
-            if scope.is_marked(k) {
-                return Err(refused(Refusal::Consumed, word.place));
-            }
-            let local = local_at(locals, k);
-            note(codes, i, node, Op::Dup(distance(height, local.height)));
-            Ok(local.kind)
-        }
-        None => Err(no_dup(world, node.place, word, name)),
+    let Some(k) = find(world.text, locals, scope.depth, name) else {
+        return Err(no_dup(world, node.place, word, name));
+    };
+    if scope.is_marked(k) {
+        return Err(refused(Refusal::Consumed, word.place));
     }
+    let local = local_at(locals, k);
+    note(codes, i, node, Op::Dup(distance(height, local.height)));
+    Ok(local.kind)
 }

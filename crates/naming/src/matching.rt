@@ -48,14 +48,15 @@ fn unlike(place: usize) -> Refused
 fn variant_of(world: &World<'_>, place: usize, word: Word, name: &[u8]) -> Result<u16, Refused>
     ensures { OnHead world.now place word.place name.now result }
 {
-    match world.globals.named(world.text, name) {
-        Some(Global::Function(_)) => Err(unlike(place)),
-        Some(Global::Constructor(k)) => Ok(k),
-        Some(Global::Val(k)) => match val_at(world.vals, k) {
-            Some(_) => Err(unlike(place)),
-            None => Err(refused(Refusal::Unknown, word.place)),
-        },
-        None => Err(refused(Refusal::Unknown, word.place)),
+    let unknown = refused(Refusal::Unknown, word.place);
+    let global = world.globals.named(world.text, name).ok_or(unknown)?;
+    match global {
+        Global::Function(_) => Err(unlike(place)),
+        Global::Constructor(k) => Ok(k),
+        Global::Val(k) => {
+            val_at(world.vals, k).ok_or(unknown)?;
+            Err(unlike(place))
+        }
     }
 }
 
