@@ -38,9 +38,6 @@ module _ (world : World) (script : Script) (tables : Tables) (past : ℕ) (xs : 
     pub many : length left ≡ count types
     pub whole : (result : Result (Unit {0}) Refused) (new : Desk) → ParametersAnswers world script (map bound left) types now result new → ParametersAnswers world script (map bound xs) τs old result new
 
-  pub parameters_start : Ready world script old → (first row last : ℕ) → ParametersLie (text_of world script) tables first xs → past ≡ first + length xs → lie_from row last τs → length xs ≡ count τs → ParametersLeft first row old
-  parameters_start ready first row last at size lie many = record { left = xs; types = τs; last = last; ready = ready; at = at; size = size; lie = lie; many = many; whole = λ result new rest. rest }
-
   pub parameters_end : (first row : ℕ) (now : Desk) → ParametersLeft first row now → past ≤ first → ParametersAnswers world script (map bound xs) τs old (Ok tt) now
   parameters_end first row now l few = l.whole (Ok tt) now (none l.left l.types l.size)
     where

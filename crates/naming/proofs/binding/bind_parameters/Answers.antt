@@ -3,13 +3,9 @@ use Rattle.std.specs.Prelude.{map}
 use Rattle.grammar.specs.Trees.{bound}
 use Rattle.naming.specs.Binding.{ParametersAnswers}
 use Rattle.naming.specs.Judges.{desk}
-use Rattle.naming.proofs.ParameterLaws.{parameters_start, parameters_end, parameters_refused, parameters_next}
+use Rattle.naming.proofs.ParameterLaws.{parameters_end, parameters_refused, parameters_next}
 use Rattle.type_rows.specs.Rows.{row_at, kind_at}
 use Rattle.naming.proofs.binding.bind_parameters.Goals as goal
-
-pub loop-k-init : goal.loop-k-init
-loop-k-init c script xs τs last set ready at size lie many =
-    parameters_start c.args.world.now script c.args.tables.now c.args.past xs τs (desk c.args.scope.now c.args.locals.now) ready c.args.first c.args.row last at size lie many
 
 pub loop-k-preserved : goal.loop-k-preserved
 loop-k-preserved c script xs τs last set ready at size lie many =
