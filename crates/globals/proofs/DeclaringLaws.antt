@@ -22,13 +22,29 @@ use Rattle.typing.specs.Scripts.{basis_names, bytes_of}
 use Rattle.typing.specs.Verdict.{Verdict, refused, once, once_variants, once_all}
 use Rattle.layout.proofs.Standing.{type_some}
 use Rattle.globals.proofs.Constructors.{seen_more}
-use Rattle.globals.proofs.Tallying.{recounted}
 
 seen_annotated_more : (t : Tally) (x : Ident) (e : TypeExpr) (root : ℕ) → seen_annotated (also_annotated x e root t) ≡ x.bytes ∷ seen_annotated t
 seen_annotated_more t x e root = ap (λ l. reverse l ++ basis_names) (map-append (λ (a : means.Annotation). a.name.bytes) t.annotations _) ∙ ap (λ l. l ++ basis_names) (reverse-append (annotated_names t.annotations) (x.bytes ∷ []))
 
 seen_datatypes_more : (t : Tally) (x : Ident) → seen_datatypes (also_datatype x t) ≡ x.bytes ∷ seen_datatypes t
 seen_datatypes_more t x = ap reverse (map-append (λ (x : Ident). x.bytes) t.datatypes (x ∷ [])) ∙ reverse-append (bytes_of t.datatypes) (x.bytes ∷ [])
+
+-- a tally with other counters
+recounted : (text : List ℕ) (d : Declarations) (t : Tally) (n k v w : ℕ) → Holds text d t → n ≡ k → v ≡ w → Holds text (record d { functions = n; vals = v }) (record t { functions = k; vals = w })
+recounted text d t n k v w h e f = record {
+  bound = h.bound;
+  bound_names_are = h.bound_names_are;
+  meanings = h.meanings;
+  annotations = h.annotations;
+  annotations_are = h.annotations_are;
+  as_many = h.as_many;
+  roots = h.roots;
+  datatypes = h.datatypes;
+  datatypes_are = h.datatypes_are;
+  variants = h.variants;
+  functions = e;
+  vals = f;
+}
 
 module _ (text : List ℕ) (tables : Tables) where
   -- a bound name that is refused

@@ -1,5 +1,5 @@
 -- All definitions of a script, one by one.
-use Rattle.std.proofs.Common.{◌≡◌, ℕ, ◌+◌, ◌<◌, ◌≤◌, List, [], ◌∷◌, length, sym, refl, ap, ◌∙◌, subst, zero-add, arith}
+use Rattle.std.proofs.Common.{◌≡◌, ℕ, ◌+◌, ◌<◌, List, [], ◌∷◌, length, sym, refl, ap, ◌∙◌, subst, zero-add, arith}
 use Rattle.std.proofs.lemmas.List.{length-append, length_push}
 use Rattle.globals.specs.Lying.{DefinitionLies, definition_at, ScriptLies, Laid, Few}
 use Rattle.globals.specs.Tallies.{Tally, no_tally, tallied, tallied_all, variant_codes, Sizes, Holds, names_from}
@@ -136,11 +136,3 @@ module _ (text : List ℕ) (tables : Tables) (script : Script) where
       go (d ∷ left) lies end few =
           let here = g.here in
           names g.counts d left g.tally g.holds g.sizes (subst (DefinitionLies text tables g.counts d) (ap (definition_at text tables) (sym here) ∙ sym is) lies.0) (few_all (after g.counts d) left few)
-
-  -- at the end nothing is left
-  pub gather_end : (k : ℕ) (now : Declarations) → tables.counts.definitions ≤ k → (g : Gathered text tables script k now) → (g.left ≡ []) × (tallied_all none script no_tally ≡ g.tally)
-  gather_end k now high g = go g.left g.end g.whole
-    where
-      go : (left : Script) → tables.counts.definitions ≡ k + length left → tallied_all none script no_tally ≡ tallied_all g.counts left g.tally → (left ≡ []) × (tallied_all none script no_tally ≡ g.tally)
-      go [] end whole = (refl, whole)
-      go (d ∷ left) end whole = absurd (omega arith)

@@ -1,5 +1,4 @@
 pub mod Among
-pub mod Tallying
 pub mod Constructors
 pub mod DeclaringLaws
 pub mod Listed

@@ -5,13 +5,12 @@ use Rattle.std.proofs.lemmas.List.{drop_more, drop_all, get_or-set_same, get_or-
 use Rattle.globals.specs.Types.{known_head, known_all}
 use Rattle.grammar.specs.Trees.{TypeExpr}
 use Rattle.program.specs.Programs.{Program}
-use Rattle.script_refusals.specs.declared.refusal.Refused.{Refused}
 use Rattle.type_rows.specs.Rows.{no_row, row_at}
 use Rattle.type_rows.specs.Signatures.{root_of, signature_rows, HasBasis}
 use Rattle.type_rows.specs.TypeExprs.{no_type, expr_at, row_of, HasRows}
 use Rattle.type_rows.specs.declared.row.Row.{Row}
 use Rattle.type_rows.proofs.SignatureLaws.{stand_on}
-use Rattle.typing.specs.Verdict.{accepted, refused, before}
+use Rattle.typing.specs.Verdict.{accepted, before}
 
 -- the first k rows are written
 pub record Resolving (P : Program) (ts : List TypeExpr) (k : ℕ) (rows : List Row) : Type 0 where
@@ -42,9 +41,6 @@ module _ (P : Program) (ts : List TypeExpr) (k : ℕ) (rows : List Row) where
       go : (j : ℕ) → j < k + 1 → (j ≡ k) ⊎ (j ≡ k → ⊥) → row_at (slice_set rows k r) j ≡ row_of P j (expr_at ts j)
       go j below (inl e) = ap (row_at (slice_set rows k r)) e ∙ get_or-set_same rows k r no_row (let l = g.long in omega arith) ∙ is ∙ ap (λ i. row_of P i (expr_at ts i)) (sym e)
       go j below (inr n) = get_or-set_other rows k j r no_row n ∙ g.written j (omega arith)
-
-  pub resolving_refused : (r : Refused) → k < length ts → known_head P (expr_at ts k) ≡ refused r → Resolving P ts k rows → known_all P ts ≡ refused r
-  resolving_refused r low known g = g.known ∙ known_here low ∙ ap (λ v. before v (known_all P (drop (k + 1) ts))) known
 
   pub resolving_end : length ts ≤ k → k ≤ length ts → Resolving P ts k rows → (known_all P ts ≡ accepted) × HasRows P ts rows × HasBasis rows (length ts)
   resolving_end high low g = (g.known ∙ ap (known_all P) (drop_all k ts high), λ j below. g.written j (omega arith), subst (HasBasis rows) (let e : k ≡ length ts = omega arith in e) g.basis)

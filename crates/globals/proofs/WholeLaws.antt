@@ -129,10 +129,6 @@ module _ (text : List ℕ) (globals : Globals) (script : Script) (known : Known 
   some_by None e = absurd (let z : ◌≡◌ {A = Bool} false true = e in let o : ◌≡◌ {A = ℕ} 0 1 = cc in omega arith)
   some_by (Some x) e = (x, refl)
 
-  none_by : {X : Type 0} (o : Option X) → is_some o ≡ false → o ≡ None
-  none_by None e = refl
-  none_by (Some x) e = absurd (let z : ◌≡◌ {A = Bool} true false = e in let o : ◌≡◌ {A = ℕ} 0 1 = cc in omega arith)
-
   main_is : Bool → Bool → Type 0
   main_is b r = told_main (cond b accepted (refused (refused_at refusal.NoMain 0))) r
 

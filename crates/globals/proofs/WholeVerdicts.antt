@@ -52,9 +52,6 @@ module _ (script : Script) where
   abbrev P : Program
   P = program script
 
-  pub names_refused : (r : Refused) → once_all basis_names basis_names [] script ≡ refused r → whole_verdict P script ≡ refused r
-  names_refused r e = rw e refl
-
   pub types_refused : (r : Refused) → once_all basis_names basis_names [] script ≡ accepted → known_all P (types_listed script) ≡ refused r → whole_verdict P script ≡ refused r
   types_refused r a e = let b = stated_all P script ∙ e in rw a (rw b refl)
 

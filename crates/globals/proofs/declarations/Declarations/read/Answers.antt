@@ -1,10 +1,10 @@
-use Rattle.std.proofs.Common.{◌≡◌, ◌<◌, get_or, Err, Result, sym, ap, ◌∙◌, subst, arith, rules}
+use Rattle.std.proofs.Common.{◌≡◌, ◌<◌, get_or, Err, Result, sym, ap, ◌∙◌, arith, rules}
 use Rattle.std.specs.Prelude.{min}
-use Rattle.globals.specs.Tallies.{Holds, names_from, told}
+use Rattle.globals.specs.Tallies.{told}
 use Rattle.layout.specs.declared.definition.Definition.TheVariants as definition
 use Rattle.script_refusals.specs.declared.refusal.Refused.{Refused}
 use Rattle.typing.specs.Verdict.{accepted}
-use Rattle.globals.proofs.Gathering.{gather_start, gather_next, gather_refused, gather_end}
+use Rattle.globals.proofs.Gathering.{gather_start, gather_next, gather_refused}
 use Rattle.globals.proofs.Listed.{entry_listed}
 use Rattle.globals.proofs.declarations.Declarations.read.Goals as goal
 
@@ -34,21 +34,3 @@ returns-in_err-declare-clause-names c = λ script l.
     gather_refused c.args.parsed.now.text.now c.args.parsed.now.tables.now script k c.loop-definition.declared (get_or items k definition.Unused) r (omega arith)
     (entry_listed c.args.parsed.now.text.now c.args.parsed.now.tables.now items k c.definitions-definition-items.ensures.items within) c.in_err-declare.ensures.told_names (c.loop-definition.invariant script l)
     ∙ sym (ap (λ (x : Result _ Refused). told x accepted) is)
-
-pub returns-clause-names : goal.returns-clause-names
-returns-clause-names c = λ script l.
-    let test = c.loop-definition-test.false in
-    let many = c.definitions-definition-items.ensures.many in
-    let entries = l.entries in
-    let g = c.loop-definition.invariant script l in
-    let e = gather_end c.args.parsed.now.text.now c.args.parsed.now.tables.now script c.loop-definition.definition-index c.loop-definition.declared (omega arith) g in
-    g.said ∙ ap (names_from g.tally) e.0
-
-pub returns-clause-holds : goal.returns-clause-holds
-returns-clause-holds c = λ script l.
-    let test = c.loop-definition-test.false in
-    let many = c.definitions-definition-items.ensures.many in
-    let entries = l.entries in
-    let g = c.loop-definition.invariant script l in
-    let e = gather_end c.args.parsed.now.text.now c.args.parsed.now.tables.now script c.loop-definition.definition-index c.loop-definition.declared (omega arith) g in
-    subst (Holds c.args.parsed.now.text.now c.loop-definition.declared) (sym e.1) g.holds
