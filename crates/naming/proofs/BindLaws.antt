@@ -1,6 +1,6 @@
 -- Names that are bound.
-use Rattle.std.proofs.Common.{◌≡◌, ℕ, ◌+◌, ◌<◌, ◌≤◌, Bool, true, false, cond, ◌&&◌, List, ◌∷◌, length, Some, None, Option, slice_set, sym, refl, ap, ◌∙◌, subst, arith, length-set}
-use Rattle.std.proofs.lemmas.Bool.{lt-ltb, le-ltb}
+use Rattle.std.proofs.Common.{◌≡◌, ℕ, ◌+◌, ◌<◌, Bool, true, false, cond, ◌&&◌, List, ◌∷◌, length, Some, None, Option, slice_set, sym, refl, ap, ◌∙◌, subst, arith, length-set}
+use Rattle.std.proofs.lemmas.Bool.{lt-ltb}
 use Rattle.std.proofs.lemmas.List.{get_or-set_same}
 use Rattle.std.specs.Option.{is_some, is_none}
 use Rattle.std.specs.Prelude.{nat_lt}
@@ -78,11 +78,6 @@ module _ (world : World) (script : Script) where
         → bind_name (program script) x (meant world script kind) (names world script old) next
         ≡ cond room (cond new (next (local x.bytes (meant world script kind) false ∷ names world script old)) (refused (refused_at refusal.Repeated x.place))) (refused (refused_at refusal.Limit x.place))
     binding next room new er en = cc
-
-    pub bind_limit : (next : Context → Judged (Unit {0})) (r : Refused) → 64 ≤ old.depth → r ≡ refused_at refusal.Limit word.place → bind_name (program script) x (meant world script kind) (names world script old) next ≡ refused r
-    bind_limit next r many e =
-        let full : nat_lt (length (names world script old)) 64 ≡ false = le-ltb (length (names world script old)) 64 (omega (arith, size)) in
-        binding next false _ full refl ∙ ap (λ p. refused (refused_at refusal.Limit p)) (sym spells.place_is) ∙ ap refused (sym e)
 
     pub bind_repeated : (next : Context → Judged (Unit {0})) (r : Refused) → old.depth < 64 → is_fresh (program script) x.bytes (names world script old) ≡ false → r ≡ refused_at refusal.Repeated word.place
         → bind_name (program script) x (meant world script kind) (names world script old) next ≡ refused r

@@ -26,6 +26,3 @@ datum_kind rows m mean (value.Function k) v = ap is_datum (mean k v.0 v.1).meant
 module _ (world : World) (script : Script) where
   pub val_some : (k : ℕ) (kind : ValueType) → slice_get world.vals.now k ≡ Some kind → slice_get (vals_of world script) k ≡ Some (meant world script kind)
   val_some k kind e = slice_get-map (meant world script) world.vals.now k ∙ ap (λ o. elim o [ Some x ↦ Some (meant world script x) | None ↦ None ]) e
-
-  pub val_none : (k : ℕ) → slice_get world.vals.now k ≡ None → slice_get (vals_of world script) k ≡ None
-  val_none k e = slice_get-map (meant world script) world.vals.now k ∙ ap (λ o. elim o [ Some x ↦ Some (meant world script x) | None ↦ None ]) e
