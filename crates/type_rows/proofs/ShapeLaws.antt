@@ -3,7 +3,7 @@ use Rattle.std.proofs.Common.{◌≡◌, ℕ, Bool, true, false, MatchBool, List
 use Rattle.std.specs.Str.{bytes_eq}
 use Rattle.std.proofs.lemmas.Bool.{false≢true}
 use Rattle.std.proofs.lemmas.List.{ext_get_or}
-use Rattle.type_rows.specs.Rows.{FunctionLies, RowsMean, IsKind, LookSame}
+use Rattle.type_rows.specs.Rows.{shape_at, FunctionLies, RowsMean, IsKind, LookSame}
 use Rattle.type_rows.specs.Shapes.{shapes, shapes_all, ty}
 use Rattle.type_rows.specs.declared.row.Row.{Row}
 use Rattle.type_rows.specs.declared.shape.Shape.{Shape}
@@ -107,9 +107,18 @@ module _ (rows : List Row) (m : ℕ → Ty) where
       ext_get_or shape.Unit (shapes (function f.parameters f.value)) (shapes (function g.parameters g.value)) long (λ d low. sym (f.spelt d low) ∙ l.alike d (omega arith) ∙ g.spelt d (omega arith)) in
       types_by_shapes (m x) (m y) (ap shapes f.meant ∙ all ∙ sym (ap shapes g.meant))
 
-  pub function_same : RowsMean rows m → (x y : ℕ) → IsKind rows (value.Function x) → IsKind rows (value.Function y) → (r : Bool) → MatchBool r (LookSame rows x y) (LookSame rows x y → ⊥) → r ≡ same_type (m x) (m y)
-  function_same means x y j k true l = sym (same_by_look x y (means x j.0 j.1) (means y k.0 k.1) l)
-  function_same means x y j k false n = sym (not_same (m x) (m y) (λ e. n (alike x y (means x j.0 j.1) (means y k.0 k.1) e)))
+  pub function_same : RowsMean rows m → (a b : ValueType) (x y : ℕ) → a ≡ value.Function x → b ≡ value.Function y → IsKind rows a → IsKind rows b → (r : Bool) → MatchBool r (LookSame rows x y) (LookSame rows x y → ⊥) → r ≡ same_type (ty m a) (ty m b)
+  function_same means a b x y ea eb ja jb r look = go r look ∙ sym (ap (λ a. same_type (ty m a) (ty m b)) ea ∙ ap (λ b. same_type (m x) (ty m b)) eb)
+    where
+      j : (n : ℕ) × (shape_at rows x ≡ shape.Function n)
+      j = subst (IsKind rows) ea ja
+
+      k : (n : ℕ) × (shape_at rows y ≡ shape.Function n)
+      k = subst (IsKind rows) eb jb
+
+      go : (r : Bool) → MatchBool r (LookSame rows x y) (LookSame rows x y → ⊥) → r ≡ same_type (m x) (m y)
+      go true l = sym (same_by_look x y (means x j.0 j.1) (means y k.0 k.1) l)
+      go false n = sym (not_same (m x) (m y) (λ e. n (alike x y (means x j.0 j.1) (means y k.0 k.1) e)))
 
   -- a function type and another one
   pub function_other : RowsMean rows m → (a b : ValueType) (x : ℕ) → a ≡ value.Function x → IsKind rows a → ((y : ℕ) → b ≡ value.Function y → ⊥) → (r : Bool) → ((r ≡ true → a ≡ b) × (a ≡ b → r ≡ true)) → r ≡ same_type (ty m a) (ty m b)

@@ -68,6 +68,7 @@ impl Rows {
     }
 
     // Whether two types are the same.
+    #[tactic(auto, using(crate::proofs::ShapeLaws::function_same))]
     pub fn same(&self, a: ValueType, b: ValueType) -> bool
         ensures { (m : ℕ → Ty) → RowsMean self.now.rows m → IsKind self.now.rows a → IsKind self.now.rows b → result ≡ same_type (ty m a) (ty m b) }
     {
