@@ -1,17 +1,16 @@
 -- What each reader of constructors tells, by what the readers that it calls tell.
-use Rattle.std.proofs.Common.{◌≡◌, ℕ, ◌+◌, ◌-◌, ◌<◌, min, List, [], ◌∷◌, length, set, Some, Ok, Err, Result, sym, refl, ap, ◌∙◌, subst, add-zero, arith, lt-ltb}
+use Rattle.std.proofs.Common.{◌≡◌, ℕ, ◌+◌, ◌-◌, ◌<◌, List, [], ◌∷◌, length, set, Some, Ok, Err, Result, sym, refl, ap, ◌∙◌, subst, add-zero, arith, lt-ltb}
+use Rattle.std.proofs.lemmas.Bool.{cond-true}
 use Rattle.std.proofs.lemmas.List.{append-nil}
 use Rattle.text.specs.Tokens.{Lexed, lexed_from}
 use Rattle.text.specs.declared.bracket.Bracket.{Bracket}
 use Rattle.text.specs.declared.refusal.Refused.{Refused}
-use Rattle.text.specs.declared.refusal.Refusal.TheVariants as refusal
 use Rattle.text.specs.declared.token.TokenKind.TheVariants as kind
-use Rattle.text.specs.Scans.{refused_at}
-use Rattle.grammar.specs.Forms.{two, two_of}
+use Rattle.grammar.specs.Forms.{two}
 use Rattle.grammar.specs.Limits.{types_count, types_length, fields_count}
 use Rattle.grammar.specs.Reading.{Tally, Outcome, refused, made, and_then, name_read, read_type_list, read_type, constructor_of, read_constructor, read_constructors, read_constructor_list}
-use Rattle.grammar.specs.Sexps.{Sexp, Sexps, nil, cons, Atoms, AllAtoms}
-use Rattle.grammar.specs.Streams.{stream, count}
+use Rattle.grammar.specs.Sexps.{Sexp, atom, list, Sexps, nil, cons, place, Atoms, AllAtoms}
+use Rattle.grammar.specs.Streams.{stream}
 use Rattle.grammar.specs.Trees as tree
 use Rattle.grammar.specs.Trees.{Ident, TypeExprs}
 use Rattle.layout.specs.Tabling.{constructor_entry, constructor_entries, field_types}
@@ -24,19 +23,18 @@ use Rattle.layout.proofs.Sizes.{length_types}
 use Rattle.forms.specs.Looks.{Seen, NotClosing, Closes}
 use Rattle.forms.specs.Progress.{puts}
 use Rattle.forms.specs.Rows.{closed_by}
+use Rattle.forms.specs.Pairs.{Pair, Paired, pair_of}
 use Rattle.forms.specs.declared.names.NameAt.{NameAt}
+use Rattle.forms.specs.declared.sight.Opened.{Opened}
 use Rattle.forms.specs.declared.spot.Spot.{Spot}
-use Rattle.forms.specs.declared.survey.Survey.{Survey}
-use Rattle.forms.specs.Surveys.{surveyed}
-use Rattle.forms.proofs.FormLaws.{count_two, other_two}
+use Rattle.forms.proofs.PairLaws.{pair_made, pair_refused}
 use Rattle.forms.proofs.LookLaws.{is_list}
-use Rattle.forms.proofs.SurveyLaws.{survey_list}
 use Rattle.forms.proofs.RowLaws.{left_none, left_some, puts-++}
 use Rattle.parser.specs.Listing.{ToldMark, OnMark, OnMarks, listed, alone, all}
 use Rattle.parser.specs.TypeParts.{ToldType, OnType}
 use Rattle.parser.specs.declared.mark.Mark.{Mark}
 use Rattle.parser.proofs.KeepLaws.{Keeps, keeps_type_list, list_counted}
-use Rattle.parser.proofs.NameLaws.{OnName, NameRead, name_made, name_read_is, name_refused, then_made, then_refused, cond_true}
+use Rattle.parser.proofs.NameLaws.{OnName, NameRead, name_made, name_read_is, name_refused, then_made, then_refused}
 
 clash : ◌≡◌ {A = ℕ} 0 1 → ⊥
 clash z = omega arith
@@ -56,10 +54,10 @@ module _ (text : List ℕ) (mark : Mark) (ts : List TypeNode) (cs : List Constru
   then_fields y c n = and_then (read_type_list (read_type 64) y n) (λ us n. made (constructor_at p c us) n)
 
   opened : (x y : Sexp) (n : Tally) → n.constructors ≡ mark.constructors → constructor_of entries p (two x y) n ≡ and_then (name_read x (one_constructor n)) (then_fields y)
-  opened x y n v = cond_true _ _ _ (lt-ltb n.constructors 256 (omega arith))
+  opened x y n v = cond-true _ _ _ (lt-ltb n.constructors 256 (omega arith))
 
-  pub described_unnamed : (z : Refused) (ts' : List TypeNode) (cs' : List Constructor) → OnName text mark.place (Err z) → (x y : Sexp) → OnMarks alone k text mark ts cs (cons x (cons y nil)) (constructor_of entries p (two x y)) (Err z) ts' cs'
-  described_unnamed z ts' cs' names x y shape q rest n e a u v =
+  pub constructor_unnamed : (z : Refused) (ts' : List TypeNode) (cs' : List Constructor) → OnName text mark.place (Err z) → (x y : Sexp) → OnMarks alone k text mark ts cs (cons x (cons y nil)) (constructor_of entries p (two x y)) (Err z) ts' cs'
+  constructor_unnamed z ts' cs' names x y shape q rest n e a u v =
       let no_name = name_refused text _ (name_read x (one_constructor n)) z (names x (closed_by (cons y nil) shape q rest) (one_constructor n) e a.0) in
       subst (λ o. ToldMark alone k text rest mark ts cs o (Err z) ts' cs') (sym (opened x y n v ∙ then_refused (name_read x (one_constructor n)) (then_fields y) z no_name)) refl
 
@@ -74,9 +72,9 @@ module _ (text : List ℕ) (mark : Mark) (ts : List TypeNode) (cs : List Constru
         → constructor_of entries p (two x y) n ≡ then_fields y r.name_is (one_constructor n)
     read_name x y shape q rest n r v = opened x y n v ∙ then_made (name_read x (one_constructor n)) (then_fields y) r.name_is (one_constructor n) (name_read_is text _ x name r (one_constructor n))
 
-    pub described_stopped : (z : Refused) (now ts' : List TypeNode) (cs' : List Constructor) → OnType text (record { place = name.after; used = mark.types }) ts encode_types (read_type_list (read_type 64)) (Err z) now
+    pub constructor_stopped : (z : Refused) (now ts' : List TypeNode) (cs' : List Constructor) → OnType text (record { place = name.after; used = mark.types }) ts encode_types (read_type_list (read_type 64)) (Err z) now
         → (x y : Sexp) → OnMarks alone k text mark ts cs (cons x (cons y nil)) (constructor_of entries p (two x y)) (Err z) ts' cs'
-    described_stopped z now ts' cs' types x y shape q rest n e a u v =
+    constructor_stopped z now ts' cs' types x y shape q rest n e a u v =
         let r = named x y shape q rest n e a in
         subst (λ o. ToldMark alone k text rest mark ts cs o (Err z) ts' cs') (sym (read_name x y shape q rest n r v))
         (go r.name_is (read_type_list (read_type 64) y (one_constructor n)) (types y (closed_by nil shape q rest) (one_constructor n) r.follows a.1.0 u))
@@ -86,8 +84,8 @@ module _ (text : List ℕ) (mark : Mark) (ts : List TypeNode) (cs : List Constru
         go c (made us j) t = absurd t
 
     module _ (end : Spot) (now : List TypeNode) (types : OnType text (record { place = name.after; used = mark.types }) ts encode_types (read_type_list (read_type 64)) (Ok end) now) where
-      pub described_open : (z : Refused) (ts' : List TypeNode) (cs' : List Constructor) → NotClosing (lexed_from text end.place) → (x y : Sexp) → OnMarks alone k text mark ts cs (cons x (cons y nil)) (constructor_of entries p (two x y)) (Err z) ts' cs'
-      described_open z ts' cs' more x y shape q rest n e a u v =
+      pub constructor_open : (z : Refused) (ts' : List TypeNode) (cs' : List Constructor) → NotClosing (lexed_from text end.place) → (x y : Sexp) → OnMarks alone k text mark ts cs (cons x (cons y nil)) (constructor_of entries p (two x y)) (Err z) ts' cs'
+      constructor_open z ts' cs' more x y shape q rest n e a u v =
           let r = named x y shape q rest n e a in
           subst (λ o. ToldMark alone k text rest mark ts cs o (Err z) ts' cs') (sym (read_name x y shape q rest n r v))
           (go r.name_is (read_type_list (read_type 64) y (one_constructor n)) (types y (closed_by nil shape q rest) (one_constructor n) r.follows a.1.0 u))
@@ -96,10 +94,10 @@ module _ (text : List ℕ) (mark : Mark) (ts : List TypeNode) (cs : List Constru
           go c (refused z') t = absurd (clash cc)
           go c (made us j) t = absurd (subst NotClosing t.2 more)
 
-      pub described_made : (after : ℕ) (w : Word) (fields : ℕ) → Closes text end.place (Some after) → w ≡ word_at name.place (name.after - name.place)
+      pub constructor_made : (after : ℕ) (w : Word) (fields : ℕ) → Closes text end.place (Some after) → w ≡ word_at name.place (name.after - name.place)
           → ((s : Sexp) (rest : Lexed) → lexed_from text name.after ≡ stream s rest → Atoms s → fields ≡ listed s)
           → (x y : Sexp) → OnMarks alone k text mark ts cs (cons x (cons y nil)) (constructor_of entries p (two x y)) (Ok (record { place = after; types = end.used; constructors = mark.constructors + 1 })) now (set cs mark.constructors (entry_of p w k mark.types end.used fields))
-      described_made after w fields closes w_is size x y shape q rest n e a u v =
+      constructor_made after w fields closes w_is size x y shape q rest n e a u v =
           let r = named x y shape q rest n e a in
           subst (λ o. ToldMark alone k text rest mark ts cs o (Ok (record { place = after; types = end.used; constructors = mark.constructors + 1 })) now (set cs mark.constructors (entry_of p w k mark.types end.used fields))) (sym (read_name x y shape q rest n r v))
           (go r.name_is (w_is ∙ r.word_is) (size y (closed_by nil shape q rest) r.follows a.1.0) (read_type_list (read_type 64) y (one_constructor n)) refl (keeps_type_list 64 y (one_constructor n)) (types y (closed_by nil shape q rest) (one_constructor n) r.follows a.1.0 u))
@@ -127,31 +125,27 @@ module _ (text : List ℕ) (mark : Mark) (ts : List TypeNode) (cs : List Constru
               )
 
 -- A list of two parts, or another one.
-module _ (text : List ℕ) (mark : Mark) (ts : List TypeNode) (cs : List Constructor) (k entries : ℕ) (b : Bracket) (w : List ℕ) (p inside : ℕ) (seen : Seen text mark.place (kind.Open b) w p inside) (survey : Survey) (surveyed_is : survey ≡ surveyed (lexed_from text inside)) where
-  parts_are : (ss : Sexps) (shape : Bracket) (q : ℕ) (rest : Lexed) → lexed_from text inside ≡ closed_by ss shape q rest → AllAtoms ss → survey.parts ≡ min 7 (count ss)
-  parts_are ss shape q rest e a = ap (λ s. s.parts) (surveyed_is ∙ ap surveyed e ∙ survey_list ss shape q rest a)
+module _ (text : List ℕ) (mark : Mark) (ts : List TypeNode) (cs : List Constructor) (k entries : ℕ) where
+  pair_reads : (s : Sexp) (n : Tally) → read_constructor entries s n ≡ constructor_of entries (place s) (pair_of s) n
+  pair_reads (atom j p w) n = refl
+  pair_reads (list shape p ss q) n = refl
 
-  pub constructor_read : (r : Result Mark Refused) (ts' : List TypeNode) (cs' : List Constructor) → survey.parts ≡ 2
-      → ((x y : Sexp) → OnMarks alone k text (record { place = inside; types = mark.types; constructors = mark.constructors }) ts cs (cons x (cons y nil)) (constructor_of entries p (two x y)) r ts' cs')
+  pub constructor_read : (o : Opened) (r : Result Mark Refused) (ts' : List TypeNode) (cs' : List Constructor) → ((s : Sexp) (rest : Lexed) → lexed_from text mark.place ≡ stream s rest → Atoms s → Pair text rest s o)
+      → ((x y : Sexp) → OnMarks alone k text (record { place = o.inside; types = mark.types; constructors = mark.constructors }) ts cs (cons x (cons y nil)) (constructor_of entries o.place (two x y)) r ts' cs')
       → OnMark alone k text mark ts cs (read_constructor entries) r ts' cs'
-  constructor_read r ts' cs' pair told s rest n e a u v =
-      let l = is_list b p w (lexed_from text inside) s rest a (sym seen.follows ∙ e) in
-      let size = parts_are l.parts l.shape l.end rest l.inside l.atoms in
-      let t = count_two l.parts (omega arith) in
-      subst (λ o. ToldMark alone k text rest mark ts cs o r ts' cs') (sym (ap (λ s. read_constructor entries s n) l.is ∙ ap (λ ss. constructor_of entries p (two_of ss) n) t.1.1))
-      (again (constructor_of entries p (two t.0 t.1.0) n) r
-      (told t.0 t.1.0 l.shape l.end rest n (l.inside ∙ ap (λ ss. closed_by ss l.shape l.end rest) t.1.1) (subst AllAtoms t.1.1 l.atoms) u v))
+  constructor_read o r ts' cs' pairs told s rest n e a u v =
+      let pair = pairs s rest e a in
+      subst (λ o. ToldMark alone k text rest mark ts cs o r ts' cs') (sym (pair_made (constructor_of entries) (read_constructor entries) pair_reads text rest s n o pair))
+      (again (constructor_of entries o.place (two pair.first pair.second) n) r (told pair.first pair.second pair.shape pair.end rest n pair.follows pair.atoms u v))
     where
-      again : (o : Outcome tree.Constructor) (r : Result Mark Refused) → ToldMark alone k text rest (record { place = inside; types = mark.types; constructors = mark.constructors }) ts cs o r ts' cs' → ToldMark alone k text rest mark ts cs o r ts' cs'
+      again : (c : Outcome tree.Constructor) (r : Result Mark Refused) → ToldMark alone k text rest (record { place = o.inside; types = mark.types; constructors = mark.constructors }) ts cs c r ts' cs' → ToldMark alone k text rest mark ts cs c r ts' cs'
       again (refused x) r t = t
       again (made c m) (Ok end) t = t
       again (made c m) (Err x) t = t
 
-  pub constructor_wrong : (z : Refused) (ts' : List TypeNode) (cs' : List Constructor) → (survey.parts ≡ 2 → ⊥) → z ≡ refused_at refusal.Form p → OnMark alone k text mark ts cs (read_constructor entries) (Err z) ts' cs'
-  constructor_wrong z ts' cs' pair is_z s rest n e a u v =
-      let l = is_list b p w (lexed_from text inside) s rest a (sym seen.follows ∙ e) in
-      let size = parts_are l.parts l.shape l.end rest l.inside l.atoms in
-      subst (λ o. ToldMark alone k text rest mark ts cs o (Err z) ts' cs') (sym (ap (λ s. read_constructor entries s n) l.is ∙ ap (λ t. constructor_of entries p t n) (other_two l.parts (λ h. pair (omega arith))))) (ap Err is_z)
+  pub constructor_wrong : (z : Refused) (ts' : List TypeNode) (cs' : List Constructor) → ((s : Sexp) (rest : Lexed) → lexed_from text mark.place ≡ stream s rest → Atoms s → Paired text rest s (Err z)) → OnMark alone k text mark ts cs (read_constructor entries) (Err z) ts' cs'
+  constructor_wrong z ts' cs' pairs s rest n e a u v =
+      subst (λ o. ToldMark alone k text rest mark ts cs o (Err z) ts' cs') (sym (pair_refused (constructor_of entries) (read_constructor entries) pair_reads text rest s n (λ p. refl) z (pairs s rest e a))) refl
 
 -- Constructor definitions in a list.
 abbrev pub OnRow : List ℕ → ℕ → ℕ → Mark → List TypeNode → List Constructor → Result Mark Refused → List TypeNode → List Constructor → Type 0

@@ -1,5 +1,6 @@
 -- What each reader of definitions tells, by what the readers that it calls tell.
 use Rattle.std.proofs.Common.{◌≡◌, ℕ, ◌+◌, ◌-◌, ◌<◌, ltb, List, map, length, set, Some, Ok, Err, sym, refl, ap, ◌∙◌, subst, arith, lt-ltb}
+use Rattle.std.proofs.lemmas.Bool.{cond-true}
 use Rattle.text.specs.Tokens.{Lexed, lexed_from}
 use Rattle.text.specs.declared.bracket.Bracket.{Bracket}
 use Rattle.text.specs.declared.refusal.Refused.{Refused}
@@ -29,14 +30,15 @@ use Rattle.forms.specs.Rows.{closed_by}
 use Rattle.forms.specs.declared.names.NameAt.{NameAt}
 use Rattle.forms.specs.declared.spot.Spot.{Spot}
 use Rattle.forms.proofs.PartLaws.{length_encode}
+use Rattle.forms.proofs.ReaderLaws.{Keeps}
 use Rattle.forms.proofs.RowLaws.{left_none}
 use Rattle.parser.specs.Defining.{Tallied, ToldDefinition, OnParts}
 use Rattle.parser.specs.Listing.{ToldNames, ToldMark, OnNameList, OnMark, all}
 use Rattle.parser.specs.Noting.{noted_in}
 use Rattle.parser.specs.TypeParts.{ToldType, OnType}
 use Rattle.parser.specs.declared.mark.Mark.{Mark}
-use Rattle.parser.proofs.KeepLaws.{Same, same_parameter_list}
-use Rattle.parser.proofs.NameLaws.{OnName, NameRead, name_made, name_read_is, name_refused, then_made, then_refused, cond_true}
+use Rattle.parser.proofs.KeepLaws.{keeps_parameter_list}
+use Rattle.parser.proofs.NameLaws.{OnName, NameRead, name_made, name_read_is, name_refused, then_made, then_refused}
 
 clash : ◌≡◌ {A = ℕ} 0 1 → ⊥
 clash z = omega arith
@@ -110,7 +112,7 @@ module _ (text : List ℕ) (inside : ℕ) where
 -- A val.
 module _ (text : List ℕ) (inside p entries : ℕ) (t : Tables) (ns : List Node) (few : t.counts.bindings < 256) where
   counted : (n : Tally) (f : Tally → Outcome tree.Definition) → Tallied n t.counts → count_binding p n f ≡ f (one_binding n)
-  counted n f u = let same = u.bindings in cond_true (ltb n.bindings 256) _ _ (lt-ltb n.bindings 256 (omega arith))
+  counted n f u = let same = u.bindings in cond-true (ltb n.bindings 256) _ _ (lt-ltb n.bindings 256 (omega arith))
 
   abbrev val_body : Sexp → Ident → Tally → Outcome tree.Definition
   val_body e x n = and_then (read_expr entries 64 e n) (λ y n. made (val_binding p x y) n)
@@ -167,7 +169,7 @@ module _ (text : List ℕ) (inside p entries : ℕ) (t : Tables) (ns : List Node
 -- A define.
 module _ (text : List ℕ) (inside p entries : ℕ) (t : Tables) (ns : List Node) (few : t.counts.bindings < 256) where
   bound_one : (n : Tally) (f : Tally → Outcome tree.Definition) → Tallied n t.counts → count_binding p n f ≡ f (one_binding n)
-  bound_one n f u = let same = u.bindings in cond_true (ltb n.bindings 256) _ _ (lt-ltb n.bindings 256 (omega arith))
+  bound_one n f u = let same = u.bindings in cond-true (ltb n.bindings 256) _ _ (lt-ltb n.bindings 256 (omega arith))
 
   abbrev define_body : Sexp → Ident → List Ident → Tally → Outcome tree.Definition
   define_body e x xs n = and_then (read_expr entries 64 e n) (λ y n. made (function_definition p x xs y) n)
@@ -207,13 +209,13 @@ module _ (text : List ℕ) (inside p entries : ℕ) (t : Tables) (ns : List Node
       define_refused z now ns' t' body x ps e shape q rest n E a u =
           let r = named text inside x (cons ps (cons e nil)) shape q rest (one_binding n) name names E a in
           subst (λ o. ToldDefinition text rest t ns o (Err z) t' ns') (sym (define_named x ps e shape q rest n r u))
-          (go r.name_is (read_parameter_list entries ps (one_binding n)) (same_parameter_list entries ps (one_binding n)) (parameters entries ps (closed_by (cons e nil) shape q rest) (one_binding n) r.follows a.1.0))
+          (go r.name_is (read_parameter_list entries ps (one_binding n)) (keeps_parameter_list entries ps (one_binding n)) (parameters entries ps (closed_by (cons e nil) shape q rest) (one_binding n) r.follows a.1.0))
         where
           last : (x : Ident) (xs : List Ident) (o : Outcome Expr) → ToldBy (λ n. n.nodes) text rest body_at ns (encode t.counts.nodes) o (Err z) now → ToldDefinition text rest t ns (and_then o (λ y n. made (function_definition p x xs y) n)) (Err z) t' ns'
           last x xs (refused z') h = let same : z ≡ z' = cc in ap Err same
           last x xs (made y m) h = absurd h
 
-          go : (x : Ident) (o : Outcome (List Ident)) → Same (one_binding n) o → ToldNames text (closed_by (cons e nil) shape q rest) list_at t.parameters o (Ok middle) ws → ToldDefinition text rest t ns (and_then o (define_body e x)) (Err z) t' ns'
+          go : (x : Ident) (o : Outcome (List Ident)) → Keeps (one_binding n) o → ToldNames text (closed_by (cons e nil) shape q rest) list_at t.parameters o (Ok middle) ws → ToldDefinition text rest t ns (and_then o (define_body e x)) (Err z) t' ns'
           go x (refused z') same h = absurd (clash cc)
           go x (made xs m) same h = last x xs (read_expr entries 64 e m) (body e shape q rest m h.1 a.1.1 (ap (λ n. n.nodes) same ∙ u.nodes))
 
@@ -224,7 +226,7 @@ module _ (text : List ℕ) (inside p entries : ℕ) (t : Tables) (ns : List Node
       define_made end w f t' ns' body w_is f_is t_is x ps e shape q rest n E a u =
           let r = named text inside x (cons ps (cons e nil)) shape q rest (one_binding n) name names E a in
           subst (λ o. ToldDefinition text rest t ns o (Ok end.place) t' ns') (sym (define_named x ps e shape q rest n r u))
-          (go r.name_is (w_is ∙ r.word_is) (read_parameter_list entries ps (one_binding n)) (same_parameter_list entries ps (one_binding n)) (parameters entries ps (closed_by (cons e nil) shape q rest) (one_binding n) r.follows a.1.0))
+          (go r.name_is (w_is ∙ r.word_is) (read_parameter_list entries ps (one_binding n)) (keeps_parameter_list entries ps (one_binding n)) (parameters entries ps (closed_by (cons e nil) shape q rest) (one_binding n) r.follows a.1.0))
         where
           last : (x : Ident) → w ≡ word x → (xs : List Ident) → middle.used ≡ t.counts.parameters + length xs → ws ≡ puts t.parameters t.counts.parameters (map word xs)
               → (o : Outcome Expr) → ToldBy (λ n. n.nodes) text rest body_at ns (encode t.counts.nodes) o (Ok end) ns' → ToldDefinition text rest t ns (and_then o (λ y n. made (function_definition p x xs y) n)) (Ok end.place) t' ns'
@@ -247,7 +249,7 @@ module _ (text : List ℕ) (inside p entries : ℕ) (t : Tables) (ns : List Node
                 },
               )
 
-          go : (x : Ident) → w ≡ word x → (o : Outcome (List Ident)) → Same (one_binding n) o → ToldNames text (closed_by (cons e nil) shape q rest) list_at t.parameters o (Ok middle) ws → ToldDefinition text rest t ns (and_then o (define_body e x)) (Ok end.place) t' ns'
+          go : (x : Ident) → w ≡ word x → (o : Outcome (List Ident)) → Keeps (one_binding n) o → ToldNames text (closed_by (cons e nil) shape q rest) list_at t.parameters o (Ok middle) ws → ToldDefinition text rest t ns (and_then o (define_body e x)) (Ok end.place) t' ns'
           go x is (refused z') same h = absurd (clash cc)
           go x is (made xs m) same h = last x is xs h.0 h.2 (read_expr entries 64 e m) (body e shape q rest m h.1 a.1.1 (ap (λ n. n.nodes) same ∙ u.nodes))
 
@@ -318,7 +320,7 @@ module _ (text : List ℕ) (inside p entries : ℕ) (t : Tables) (ns : List Node
 -- A datatype.
 module _ (text : List ℕ) (inside p entries : ℕ) (t : Tables) (ns : List Node) (few : t.counts.datatypes < 64) where
   datatype_one : (n : Tally) (f : Tally → Outcome tree.Definition) → Tallied n t.counts → count_datatype p n f ≡ f (one_datatype n)
-  datatype_one n f u = let same = u.datatypes in cond_true (ltb n.datatypes 64) _ _ (lt-ltb n.datatypes 64 (omega arith))
+  datatype_one n f u = let same = u.datatypes in cond-true (ltb n.datatypes 64) _ _ (lt-ltb n.datatypes 64 (omega arith))
 
   abbrev datatype_list : Sexp → Ident → Tally → Outcome tree.Definition
   datatype_list y x n = and_then (read_constructor_list entries y n) (λ cs n. made (datatype_definition p x cs) n)

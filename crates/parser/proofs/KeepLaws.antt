@@ -1,12 +1,13 @@
 -- Reading types counts nothing but types, and a list of types that is made has as many as it has parts.
-use Rattle.std.proofs.Common.{◌≡◌, ℕ, zero, suc, ◌+◌, ◌≤◌, Bool, true, false, cond, ltb, ◌∷◌, Some, None, Option, sym, refl, ap, ◌∙◌, subst, arith, ltb-true}
+use Rattle.std.proofs.Common.{◌≡◌, ℕ, zero, suc, ◌+◌, ◌≤◌, Bool, true, false, cond, ltb, ◌∷◌, Some, None, Option, sym, refl, ap, ◌∙◌, arith, ltb-true}
+use Rattle.std.proofs.lemmas.Bool.{cond_both}
+use Rattle.forms.proofs.ReaderLaws as reader
 use Rattle.grammar.specs.Forms.{Two, two, not_two, arrow_of}
 use Rattle.grammar.specs.Limits.{types_length}
 use Rattle.grammar.specs.Reading.{Tally, Outcome, refused, made, and_then, wrong, over_limit, count_type, atom_type, type_atom, type_shaped, read_types, read_type_list, read_arrow, read_type, name_read, read_parameters, read_parameter_list}
 use Rattle.grammar.specs.Sexps.{Sexp, atom, list, Sexps, nil, cons, place}
 use Rattle.grammar.specs.Streams.{count}
 use Rattle.grammar.specs.Trees.{TypeExpr, function_type_rule, TypeExprs, no_types, and_type}
-use Rattle.text.specs.declared.token.TokenKind.TheVariants as kind
 use Rattle.parser.specs.Listing.{listed}
 
 clash : ◌≡◌ {A = ℕ} 0 1 → ⊥
@@ -38,12 +39,8 @@ keeps_then {A} {B} n (made a m) f k h = go (f a m) (h a m)
     go (refused x) j = tt
     go (made b p) j = others_then n m p k j
 
-keeps_cond : {A : Type 0} (n : Tally) (b : Bool) (o p : Outcome A) → Keeps n o → Keeps n p → Keeps n (cond b o p)
-keeps_cond n true o p h k = h
-keeps_cond n false o p h k = k
-
 keeps_count : {A : Type 0} (p : ℕ) (n : Tally) (f : Tally → Outcome A) → ((m : Tally) → Keeps m (f m)) → Keeps n (count_type p n f)
-keeps_count {A} p n f h = keeps_cond n (ltb n.types 512) (f one) (over_limit p) (go (f one) (h one)) tt
+keeps_count {A} p n f h = cond_both (ltb n.types 512) (f one) (over_limit p) (Keeps n) (λ t. go (f one) (h one)) (λ f. tt)
   where
     one : Tally
     one = record { nodes = n.nodes; types = n.types + 1; bindings = n.bindings; datatypes = n.datatypes; constructors = n.constructors }
@@ -56,9 +53,9 @@ module _ (read : Sexp → Tally → Outcome TypeExpr) (keeps : (s : Sexp) (n : T
   keeps_types : (k : ℕ) (ss : Sexps) (n : Tally) → Keeps n (read_types read k ss n)
   keeps_types k nil n = others_none n
   keeps_types k (cons s ss) n =
-      keeps_cond n (ltb k 6) _ _
-      (keeps_then n (read s n) _ (keeps s n) (λ t m. keeps_then m (read_types read (k + 1) ss m) _ (keeps_types (k + 1) ss m) (λ ts o. others_none o)))
-      (keeps_cond n (type_shaped s) _ _ tt tt)
+      cond_both (ltb k 6) _ _ (Keeps n)
+      (λ t. keeps_then n (read s n) _ (keeps s n) (λ t m. keeps_then m (read_types read (k + 1) ss m) _ (keeps_types (k + 1) ss m) (λ ts o. others_none o)))
+      (λ f. cond_both (type_shaped s) _ _ (Keeps n) (λ t. tt) (λ f. tt))
 
   keeps_list : (s : Sexp) (n : Tally) → Keeps n (read_type_list read s n)
   keeps_list (atom k p w) n = tt
@@ -119,33 +116,12 @@ module _ (read : Sexp → Tally → Outcome TypeExpr) where
       omega arith
 
 -- Names count nothing.
-abbrev pub Same : {A : Type 0} → Tally → Outcome A → Type 0
-Same n (refused x) = Unit {0}
-Same n (made a m) = m ≡ n
+names_none : (entries k : ℕ) (ss : Sexps) (n : Tally) → reader.Keeps n (read_parameters entries k ss n)
+names_none entries k nil n = refl
+names_none entries k (cons s ss) n =
+    reader.keeps_then n (name_read s n) (λ x n. cond (ltb k 6) (and_then (read_parameters entries (k + 1) ss n) (λ xs n. made (x ∷ xs) n)) (over_limit (place s))) (reader.keeps_name s n)
+    (λ x. cond_both (ltb k 6) _ _ (reader.Keeps n) (λ t. reader.keeps_then n (read_parameters entries (k + 1) ss n) (λ xs n. made (x ∷ xs) n) (names_none entries (k + 1) ss n) (λ xs. refl)) (λ f. tt))
 
-same_then : {A B : Type 0} (n : Tally) (o : Outcome A) (f : A → Tally → Outcome B) → Same n o → ((a : A) → Same n (f a n)) → Same n (and_then o f)
-same_then n (refused x) f k h = tt
-same_then n (made a m) f k h = subst (λ m. Same n (f a m)) (sym k) (h a)
-
-same_cond : {A : Type 0} (n : Tally) (b : Bool) (o p : Outcome A) → Same n o → Same n p → Same n (cond b o p)
-same_cond n true o p h k = h
-same_cond n false o p h k = k
-
-same_name : (s : Sexp) (n : Tally) → Same n (name_read s n)
-same_name (list shape p ss q) n = tt
-same_name (atom kind.Name p w) n = refl
-same_name (atom (kind.Open r) p w) n = tt
-same_name (atom (kind.Close r) p w) n = tt
-same_name (atom kind.Symbol p w) n = tt
-same_name (atom (kind.Integer z) p w) n = tt
-same_name (atom (kind.Keyword k) p w) n = tt
-
-same_parameters : (entries k : ℕ) (ss : Sexps) (n : Tally) → Same n (read_parameters entries k ss n)
-same_parameters entries k nil n = refl
-same_parameters entries k (cons s ss) n =
-    same_then n (name_read s n) (λ x n. cond (ltb k 6) (and_then (read_parameters entries (k + 1) ss n) (λ xs n. made (x ∷ xs) n)) (over_limit (place s))) (same_name s n)
-    (λ x. same_cond n (ltb k 6) _ _ (same_then n (read_parameters entries (k + 1) ss n) (λ xs n. made (x ∷ xs) n) (same_parameters entries (k + 1) ss n) (λ xs. refl)) tt)
-
-pub same_parameter_list : (entries : ℕ) (s : Sexp) (n : Tally) → Same n (read_parameter_list entries s n)
-same_parameter_list entries (atom k p w) n = tt
-same_parameter_list entries (list shape p ss q) n = same_parameters entries 0 ss n
+pub keeps_parameter_list : (entries : ℕ) (s : Sexp) (n : Tally) → reader.Keeps n (read_parameter_list entries s n)
+keeps_parameter_list entries (atom k p w) n = tt
+keeps_parameter_list entries (list shape p ss q) n = names_none entries 0 ss n

@@ -1,5 +1,6 @@
 -- Names, and lists of them.
-use Rattle.std.proofs.Common.{◌≡◌, ℕ, ◌+◌, ◌-◌, ◌<◌, ◌≤◌, Bool, true, false, cond, ltb, List, ◌∷◌, map, length, set, Some, Ok, Err, Result, sym, refl, ap, ◌∙◌, subst, add-zero, arith, le-ltb, lt-ltb}
+use Rattle.std.proofs.Common.{◌≡◌, ℕ, ◌+◌, ◌-◌, ◌<◌, ◌≤◌, ltb, List, ◌∷◌, map, length, set, Some, Ok, Err, Result, sym, refl, ap, ◌∙◌, subst, add-zero, arith, le-ltb, lt-ltb}
+use Rattle.std.proofs.lemmas.Bool.{cond-true, cond-false}
 use Rattle.text.specs.Scans.{refused_at}
 use Rattle.text.specs.Tokens.{Lexed, lexed_from}
 use Rattle.text.specs.declared.bracket.Bracket.{Bracket}
@@ -30,14 +31,6 @@ then_refused o f x e = ap (λ o. and_then o f) e
 
 pub then_made : {A B : Type 0} (o : Outcome A) (f : A → Tally → Outcome B) (a : A) (n : Tally) → o ≡ made a n → and_then o f ≡ f a n
 then_made o f a n e = ap (λ o. and_then o f) e
-
-pub cond_true : {A : Type 0} (b : Bool) (x y : A) → b ≡ true → cond b x y ≡ x
-cond_true true x y e = refl
-cond_true false x y e = absurd (clash cc)
-
-pub cond_false : {A : Type 0} (b : Bool) (x y : A) → b ≡ false → cond b x y ≡ y
-cond_false true x y e = absurd (clash cc)
-cond_false false x y e = refl
 
 -- A name was read.
 pub record NameRead (text : List ℕ) (s : Sexp) (rest : Lexed) (name : NameAt) : Type 0 where
@@ -99,7 +92,7 @@ module _ (text : List ℕ) (entries : ℕ) (at : Spot) (now : List Word) (k : �
           let r = name_made text (closed_by left shape q rest) s n name (told s (closed_by left shape q rest) n (e ∙ ap (λ ss. closed_by ss shape q rest) l.1.1) atoms.0) in
           let where_is : name.place ≡ place s = r.place_is ∙ ap place (sym r.form_is) in
           let too_many : read_parameters entries k (cons s left) n ≡ refused (refused_at refusal.Limit (place s)) =
-          then_made (name_read s n) _ r.name_is n (name_read_is text _ s name r n) ∙ cond_false (ltb k 6) _ _ (le-ltb k 6 many) in
+          then_made (name_read s n) _ r.name_is n (name_read_is text _ s name r n) ∙ cond-false (ltb k 6) _ _ (le-ltb k 6 many) in
           subst (λ o. ToldNames text rest at now o (Err x) then) (sym (ap (λ ss. read_parameters entries k ss n) l.1.1 ∙ too_many)) (ap Err (is ∙ ap (refused_at refusal.Limit) where_is))
 
       pub names_next : k < 6 → (w : Word) → w ≡ word_at name.place (name.after - name.place) → (j : ℕ) → j ≡ k + 1 → (r : Result Spot Refused) (after : List Word)
@@ -113,7 +106,7 @@ module _ (text : List ℕ) (entries : ℕ) (at : Spot) (now : List Word) (k : �
           let m = name_made text (closed_by left shape q rest) s n name (told s (closed_by left shape q rest) n (e ∙ ap (λ ss. closed_by ss shape q rest) l.1.1) atoms.0) in
           let i = m.name_is in
           let one_more : read_parameters entries k (cons s left) n ≡ and_then (read_parameters entries j left n) (λ xs n. made (i ∷ xs) n) =
-          then_made (name_read s n) _ i n (name_read_is text _ s name m n) ∙ cond_true (ltb k 6) _ _ (lt-ltb k 6 few) ∙ ap (λ j. and_then (read_parameters entries j left n) (λ xs n. made (i ∷ xs) n)) (sym j_is) in
+          then_made (name_read s n) _ i n (name_read_is text _ s name m n) ∙ cond-true (ltb k 6) _ _ (lt-ltb k 6 few) ∙ ap (λ j. and_then (read_parameters entries j left n) (λ xs n. made (i ∷ xs) n)) (sym j_is) in
           subst (λ o. ToldNames text rest at now o r after) (sym (ap (λ ss. read_parameters entries k ss n) l.1.1 ∙ one_more))
           (go i (w_is ∙ m.word_is) (read_parameters entries j left n) r (others left shape q rest n m.follows atoms.1))
         where

@@ -1,5 +1,7 @@
 -- What each reader of types tells, by what the readers that it calls tell.
 use Rattle.std.proofs.Common.{◌≡◌, ℕ, zero, suc, ◌+◌, ◌-◌, ◌<◌, ◌≤◌, min, Bool, true, false, cond, eqb, ltb, List, [], ◌∷◌, ◌++◌, length, set, Some, None, Ok, Err, Option, Result, sym, refl, ap, ◌∙◌, subst, add-zero, arith, le-ltb, lt-ltb, ne_eqb}
+use Rattle.std.proofs.lemmas.Bool.{cond-true, cond-false}
+use Rattle.std.specs.Option as option
 use Rattle.text.specs.Grammar.{NoBracket, Spelt}
 use Rattle.text.specs.Scans.{refused_at}
 use Rattle.text.specs.Tokens.{Lexed, lexed_from}
@@ -13,7 +15,7 @@ use Rattle.text.specs.declared.token.TokenKind.TheVariants as kind
 use Rattle.grammar.specs.Forms.{is_key, kind_head, Two, two, not_two, two_of, arrowed, arrow_of}
 use Rattle.grammar.specs.Limits.{type_count, types_count}
 use Rattle.forms.specs.Looks.{Seen, NotClosing, Closes, Behind}
-use Rattle.grammar.specs.Reading.{Tally, Outcome, refused, made, and_then, wrong, over_limit, count_type, keyword_type, atom_type, type_atom, is_some, is_two, type_shaped, read_types, read_type_list, read_arrow, read_type}
+use Rattle.grammar.specs.Reading.{Tally, Outcome, refused, made, and_then, wrong, over_limit, count_type, atom_type, type_atom, is_some, is_two, type_shaped, read_types, read_type_list, read_arrow, read_type}
 use Rattle.forms.specs.Rows.{closed_by}
 use Rattle.grammar.specs.Sexps.{Sexp, atom, list, Sexps, nil, cons, place, AllAtoms}
 use Rattle.grammar.specs.Streams.{stream, count, first_head}
@@ -58,41 +60,22 @@ denied {A} used p x n next e h = go (ltb used 512) refl h
     go true t h = absurd (clash cc)
     go false t h = let t' : ltb n.types 512 ≡ false = ap (λ u. ltb u 512) e ∙ t in let q : refused_at refusal.Limit p ≡ x = cc in rw t' (ap refused q)
 
--- A token that is no type, and one that is, with its entry.
-no_keyword : (k : Keyword) (p : ℕ) → keyword_type_form k ≡ None → keyword_type k p ≡ None
-no_keyword k p e = go (is_key k keyword.Int) refl (is_key k keyword.Bool) refl (is_key k keyword.Sym) refl (is_key k keyword.Unit) refl e
+-- whether a token is a type, in the code and in the rules
+pub atom_typed : (k : TokenKind) (p n : ℕ) (w : List ℕ) → is_some (atom_type k p w) ≡ option.is_some (type_form k n)
+atom_typed (kind.Integer z) p n w = refl
+atom_typed kind.Symbol p n w = refl
+atom_typed kind.Name p n w = refl
+atom_typed (kind.Keyword k) p n w = go (is_key k keyword.Int) (is_key k keyword.Bool) (is_key k keyword.Sym) (is_key k keyword.Unit)
   where
-    go : (a : Bool) → is_key k keyword.Int ≡ a → (b : Bool) → is_key k keyword.Bool ≡ b → (c : Bool) → is_key k keyword.Sym ≡ c → (d : Bool) → is_key k keyword.Unit ≡ d
-        → ◌≡◌ {A = Option TypeForm} (cond a (Some form.Int) (cond b (Some form.Bool) (cond c (Some form.Sym) (cond d (Some form.Unit) None)))) None → keyword_type k p ≡ None
-    go true t b u c v d w e = absurd (clash cc)
-    go false t true u c v d w e = absurd (clash cc)
-    go false t false u true v d w e = absurd (clash cc)
-    go false t false u false v true w e = absurd (clash cc)
-    go false t false u false v false w e = rw (t, u, v, w) refl
-
-pub no_type : (k : TokenKind) (p n : ℕ) (w : List ℕ) → type_form k n ≡ None → atom_type k p w ≡ None
-no_type (kind.Integer z) p n w e = refl
-no_type kind.Symbol p n w e = refl
-no_type kind.Name p n w e = absurd (clash cc)
-no_type (kind.Keyword k) p n w e = no_keyword k p e
-no_type (kind.Open r) p n w e = refl
-no_type (kind.Close r) p n w e = refl
-
-pub some_type : (k : TokenKind) (p n : ℕ) (w : List ℕ) (f : TypeForm) → type_form k n ≡ Some f → is_some (atom_type k p w) ≡ true
-some_type (kind.Integer z) p n w f e = absurd (clash cc)
-some_type kind.Symbol p n w f e = absurd (clash cc)
-some_type kind.Name p n w f e = refl
-some_type (kind.Keyword k) p n w f e = go (is_key k keyword.Int) (is_key k keyword.Bool) (is_key k keyword.Sym) (is_key k keyword.Unit) e
-  where
-    go : (a b c d : Bool) → ◌≡◌ {A = Option TypeForm} (cond a (Some form.Int) (cond b (Some form.Bool) (cond c (Some form.Sym) (cond d (Some form.Unit) None)))) (Some f)
-        → is_some (cond a (Some (int_type p)) (cond b (Some (bool_type p)) (cond c (Some (sym_type p)) (cond d (Some (unit_type p)) None)))) ≡ true
-    go true b c d e = refl
-    go false true c d e = refl
-    go false false true d e = refl
-    go false false false true e = refl
-    go false false false false e = absurd (clash cc)
-some_type (kind.Open r) p n w f e = absurd (clash cc)
-some_type (kind.Close r) p n w f e = absurd (clash cc)
+    go : (a b c d : Bool)
+        → is_some (cond a (Some (int_type p)) (cond b (Some (bool_type p)) (cond c (Some (sym_type p)) (cond d (Some (unit_type p)) None)))) ≡ option.is_some (cond a (Some form.Int) (cond b (Some form.Bool) (cond c (Some form.Sym) (cond d (Some form.Unit) None))))
+    go true b c d = refl
+    go false true c d = refl
+    go false false true d = refl
+    go false false false true = refl
+    go false false false false = refl
+atom_typed (kind.Open r) p n w = refl
+atom_typed (kind.Close r) p n w = refl
 
 record Leaf (k : TokenKind) (p : ℕ) (w : List ℕ) (f : TypeForm) : Type 0 where
   pub type : TypeExpr
@@ -186,14 +169,6 @@ seventh_list text at k w p inside survey b x seen surveyed_is b_is is s rest e a
     let v = view_of text inside survey b l.parts l.shape l.end rest surveyed_is b_is l.inside l.atoms in
     subst (λ s. x ≡ over_many s) (sym l.is) (shaped (list l.shape p l.parts l.end) b (view_two l.parts b (arrow_of l.parts) v) x is)
 
-cond_true : {A : Type 0} (b : Bool) (x y : A) → b ≡ true → cond b x y ≡ x
-cond_true true x y e = refl
-cond_true false x y e = absurd (clash cc)
-
-cond_false : {A : Type 0} (b : Bool) (x y : A) → b ≡ false → cond b x y ≡ y
-cond_false true x y e = absurd (clash cc)
-cond_false false x y e = refl
-
 too_many : (s : Sexp) → ◌≡◌ {A = Outcome TypeExprs} (cond (type_shaped s) (over_limit (place s)) (wrong (place s))) (refused (over_many s))
 too_many s = go (type_shaped s)
   where
@@ -216,7 +191,7 @@ module _ (text : List ℕ) (read : Sexp → Tally → Outcome TypeExpr) (at : Sp
         let s = l.0 in
         let left = l.1.0 in
         let atoms = subst AllAtoms l.1.1 a in
-        subst (λ o. ToldType text rest at now (encode_types at.used) o r after) (sym (ap (λ ss. read_types read k ss n) l.1.1 ∙ cond_true (ltb k 6) _ _ (lt-ltb k 6 few)))
+        subst (λ o. ToldType text rest at now (encode_types at.used) o r after) (sym (ap (λ ss. read_types read k ss n) l.1.1 ∙ cond-true (ltb k 6) _ _ (lt-ltb k 6 few)))
         (told_join counted text (closed_by left shape q rest) rest at end now then after encode_type encode_types (encode_types at.used) and_type (read s n) (read_types read (k + 1) left) r
         (λ t ts. ap (λ j. encode_type at.used t ++ encode_types (at.used + j) ts) (length_type at.used t))
         (first s (closed_by left shape q rest) n (e ∙ ap (λ ss. closed_by ss shape q rest) l.1.1) atoms.0 u) (λ m used follows. others left shape q rest m follows atoms.1 used))
@@ -227,7 +202,7 @@ module _ (text : List ℕ) (read : Sexp → Tally → Outcome TypeExpr) (at : Sp
         let s = l.0 in
         let left = l.1.0 in
         let atoms = subst AllAtoms l.1.1 a in
-        subst (λ o. ToldType text rest at now (encode_types at.used) o (Err x) then) (sym (ap (λ ss. read_types read k ss n) l.1.1 ∙ cond_true (ltb k 6) _ _ (lt-ltb k 6 few)))
+        subst (λ o. ToldType text rest at now (encode_types at.used) o (Err x) then) (sym (ap (λ ss. read_types read k ss n) l.1.1 ∙ cond-true (ltb k 6) _ _ (lt-ltb k 6 few)))
         (told_stop counted text (closed_by left shape q rest) rest at now then encode_type (λ t n. and_then (read_types read (k + 1) left n) (λ ts n. made (and_type t ts) n)) (encode_types at.used) (read s n) x
         (first s (closed_by left shape q rest) n (e ∙ ap (λ ss. closed_by ss shape q rest) l.1.1) atoms.0 u))
 
@@ -238,7 +213,7 @@ module _ (text : List ℕ) (read : Sexp → Tally → Outcome TypeExpr) (at : Sp
         let left = l.1.0 in
         let atoms = subst AllAtoms l.1.1 a in
         let is = seventh s (closed_by left shape q rest) (e ∙ ap (λ ss. closed_by ss shape q rest) l.1.1) atoms.0 in
-        subst (λ o. ToldType text rest at now (encode_types at.used) o (Err x) then) (sym (ap (λ ss. read_types read k ss n) l.1.1 ∙ cond_false (ltb k 6) _ _ (le-ltb k 6 many) ∙ too_many s)) (ap Err is)
+        subst (λ o. ToldType text rest at now (encode_types at.used) o (Err x) then) (sym (ap (λ ss. read_types read k ss n) l.1.1 ∙ cond-false (ltb k 6) _ _ (le-ltb k 6 many) ∙ too_many s)) (ap Err is)
 
 -- In the middle of such a list: what is told of the rest is told of the whole.
 abbrev pub Carries : List ℕ → ℕ → Spot → List TypeNode → Spot → List TypeNode → ℕ → Type 0

@@ -9,9 +9,7 @@ ghost use Rattle.text.specs.Tokens.{Lexed, lexed_from};
 
 use super::mark::Mark;
 use super::types::type_list;
-use forms::{
-    Look, Source, Spot, closing_at, end_at, look_at, name_at, opening_at, over_limit, wrong,
-};
+use forms::{Look, Source, Spot, closing_at, end_at, look_at, name_at, opening_at, over_limit};
 use layout::{Constructor, DEPTH, TypeNode};
 use text::Refused;
 
@@ -29,20 +27,20 @@ fn list_size(source: &Source, place: usize) -> u8
 }
 
 // The name and the field types of the constructor definition that begins at a place.
-fn described(
+fn constructor_parts(
     source: &Source,
-    place: usize,
+    place: u16,
     mark: Mark,
     datatype: u16,
     types: &mut [TypeNode; 512],
     table: &mut [Constructor; 256],
 ) -> Result<Mark, Refused>
-    requires { (place ≤ length source.now.text.now) × (mark.types ≤ 512) }
+    requires { mark.types ≤ 512 }
     ensures goes { GoesMark source.now.text.now mark result }
     ensures told { (entries : ℕ) (x ts : Sexp) → OnMarks alone datatype source.now.text.now mark types.old table.old (cons x (cons ts nil)) (constructor_of entries place (two x ts)) result types.new table.new }
 {
     if mark.constructors >= CONSTRUCTORS {
-        return Err(over_limit(place));
+        return Err(over_limit(place as usize));
     }
     let name = name_at(source.text, mark.place)?;
     let fields = list_size(source, name.after);
@@ -53,7 +51,7 @@ fn described(
     let end = type_list(source, first, types, DEPTH)?;
     let after = end_at(source.text, end.place)?;
     table[mark.constructors] = Constructor {
-        place: place as u16,
+        place,
         name: name.word(),
         datatype,
         first: mark.types as u16,
@@ -79,15 +77,12 @@ fn constructor_at(
     ensures goes { GoesMark source.now.text.now mark result }
     ensures told { (entries : ℕ) → OnMark alone datatype source.now.text.now mark types.old table.old (read_constructor entries) result types.new table.new }
 {
-    let opened = opening_at(source.text, mark.place)?;
-    if source.survey(opened.inside).parts != 2 {
-        return Err(wrong(opened.place));
-    }
+    let opened = source.pair_at(mark.place)?;
     let first = Mark {
         place: opened.inside,
         ..mark
     };
-    described(source, opened.place, first, datatype, types, table)
+    constructor_parts(source, opened.place as u16, first, datatype, types, table)
 }
 
 // Constructor definitions, up to the bracket that closes their list.
@@ -102,6 +97,7 @@ fn constructors_at(
     ensures goes { GoesMark source.now.text.now mark result }
     ensures told { (entries : ℕ) (ss : Sexps) → OnMarks all datatype source.now.text.now mark types.old table.old ss (read_constructors entries ss) result types.new table.new }
 {
+    // Parts are followed: the mark is where the last one ended, and no index.
     let mut at = mark;
     'parts: loop {
         if let Some(after) = closing_at(source.text, at.place) {

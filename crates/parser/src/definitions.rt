@@ -11,7 +11,7 @@ ghost use Rattle.layout.specs.declared.node.Node.{Node};
 ghost use Rattle.parser.specs.Defining.{Bounded, GoesDefinition, OnParts, OnDefinition, AtEnd, GoesDefinitions, OnDefinitions};
 
 use super::constructors::constructor_list;
-use super::functions::note;
+use super::functions::Given;
 use super::kind::{DefinitionKind, definition_of};
 use super::mark::Mark;
 use super::parameters::parameter_list;
@@ -53,18 +53,18 @@ fn body(source: &Source, spot: Spot, nodes: &mut [Node]) -> Result<Spot, Refused
 // The val that begins at a place, from its name on.
 fn val_binding(
     source: &Source,
-    place: usize,
+    place: u16,
     inside: usize,
     nodes: &mut [Node],
     tables: &mut Tables,
 ) -> Result<usize, Refused>
-    requires { (place ≤ length source.now.text.now) × Bounded tables.old }
+    requires { Bounded tables.old }
     ensures goes { GoesDefinition source.now.text.now inside result tables.new }
     ensures told { (x e : Sexp) → OnParts source.now.text.now inside tables.old nodes.old (cons x (cons e nil)) (read_definition_form (length nodes.old) place (val_form_rule x e)) result tables.new nodes.new }
 {
     let counts = tables.counts;
     if counts.bindings >= BINDINGS {
-        return Err(over_limit(place));
+        return Err(over_limit(place as usize));
     }
     let name = name_at(source.text, inside)?;
     let first = Spot {
@@ -73,7 +73,7 @@ fn val_binding(
     };
     let end = body(source, first, nodes)?;
     let val = Val {
-        place: place as u16,
+        place,
         name: name.word(),
         body: counts.nodes as u16,
     };
@@ -90,18 +90,18 @@ fn val_binding(
 // The define that begins at a place, from its name on.
 fn function_definition(
     source: &Source,
-    place: usize,
+    place: u16,
     inside: usize,
     nodes: &mut [Node],
     tables: &mut Tables,
 ) -> Result<usize, Refused>
-    requires { (place ≤ length source.now.text.now) × Bounded tables.old }
+    requires { Bounded tables.old }
     ensures goes { GoesDefinition source.now.text.now inside result tables.new }
     ensures told { (x ps e : Sexp) → OnParts source.now.text.now inside tables.old nodes.old (cons x (cons ps (cons e nil))) (read_definition_form (length nodes.old) place (define_form_rule x ps e)) result tables.new nodes.new }
 {
     let counts = tables.counts;
     if counts.bindings >= BINDINGS {
-        return Err(over_limit(place));
+        return Err(over_limit(place as usize));
     }
     let name = name_at(source.text, inside)?;
     let word = name.word();
@@ -116,7 +116,7 @@ fn function_definition(
     };
     let end = body(source, second, nodes)?;
     let define = Define {
-        place: place as u16,
+        place,
         name: word,
         first: counts.parameters as u16,
         past: middle.used as u16,
@@ -129,14 +129,12 @@ fn function_definition(
         parameters: middle.used,
         ..counts
     };
-    let number = counts.definitions as u16;
-    note(
-        source.text,
-        &mut tables.functions,
-        Half::Define,
-        word,
-        number,
-    );
+    let given = Given {
+        text: source.text,
+        half: Half::Define,
+        name: word,
+    };
+    given.note(&mut tables.functions, counts.definitions as u16);
     add(tables, Definition::Define(define), used);
     Ok(end.place)
 }
@@ -144,11 +142,11 @@ fn function_definition(
 // The annotation that begins at a place, from its name on.
 fn type_annotation(
     source: &Source,
-    place: usize,
+    place: u16,
     inside: usize,
     tables: &mut Tables,
 ) -> Result<usize, Refused>
-    requires { (place ≤ length source.now.text.now) × Bounded tables.old }
+    requires { Bounded tables.old }
     ensures goes { GoesDefinition source.now.text.now inside result tables.new }
     ensures told { (entries : ℕ) (ns : List Node) (x t : Sexp) → OnParts source.now.text.now inside tables.old ns (cons x (cons t nil)) (read_definition_form entries place (annotation_form_rule x t)) result tables.new ns }
 {
@@ -162,7 +160,7 @@ fn type_annotation(
     let end = type_at(source, first, &mut tables.types, DEPTH)?;
     let after = end_at(source.text, end.place)?;
     let annotation = Annotation {
-        place: place as u16,
+        place,
         name: word,
         root: counts.types as u16,
     };
@@ -171,14 +169,12 @@ fn type_annotation(
         definitions: counts.definitions + 1,
         ..counts
     };
-    let number = counts.definitions as u16;
-    note(
-        source.text,
-        &mut tables.functions,
-        Half::Annotation,
-        word,
-        number,
-    );
+    let given = Given {
+        text: source.text,
+        half: Half::Annotation,
+        name: word,
+    };
+    given.note(&mut tables.functions, counts.definitions as u16);
     add(tables, Definition::Annotation(annotation), used);
     Ok(after)
 }
@@ -186,17 +182,17 @@ fn type_annotation(
 // The datatype that begins at a place, from its name on.
 fn datatype_definition(
     source: &Source,
-    place: usize,
+    place: u16,
     inside: usize,
     tables: &mut Tables,
 ) -> Result<usize, Refused>
-    requires { (place ≤ length source.now.text.now) × Bounded tables.old }
+    requires { Bounded tables.old }
     ensures goes { GoesDefinition source.now.text.now inside result tables.new }
     ensures told { (entries : ℕ) (ns : List Node) (x cs : Sexp) → OnParts source.now.text.now inside tables.old ns (cons x (cons cs nil)) (read_definition_form entries place (datatype_form_rule x cs)) result tables.new ns }
 {
     let counts = tables.counts;
     if counts.datatypes >= DATATYPES {
-        return Err(over_limit(place));
+        return Err(over_limit(place as usize));
     }
     let name = name_at(source.text, inside)?;
     let first = Mark {
@@ -214,7 +210,7 @@ fn datatype_definition(
     )?;
     let after = end_at(source.text, end.place)?;
     let datatype = Datatype {
-        place: place as u16,
+        place,
         name: name.word(),
         first: counts.constructors as u16,
         past: end.constructors as u16,
@@ -242,14 +238,13 @@ fn definition(
     ensures told { OnDefinition source.now.text.now place tables.old nodes.old (read_definition (length nodes.old)) result tables.new nodes.new }
 {
     let opened = opening_at(source.text, place)?;
-    let at = opened.place;
+    let at = opened.place as u16;
     let first = behind(source.text, opened.inside);
-    match definition_of(source.survey(opened.inside)) {
-        Some(DefinitionKind::Datatype) => datatype_definition(source, at, first, tables),
-        Some(DefinitionKind::Annotation) => type_annotation(source, at, first, tables),
-        Some(DefinitionKind::Define) => function_definition(source, at, first, nodes, tables),
-        Some(DefinitionKind::Val) => val_binding(source, at, first, nodes, tables),
-        None => Err(wrong(at)),
+    match definition_of(source.survey(opened.inside)).ok_or(wrong(opened.place))? {
+        DefinitionKind::Datatype => datatype_definition(source, at, first, tables),
+        DefinitionKind::Annotation => type_annotation(source, at, first, tables),
+        DefinitionKind::Define => function_definition(source, at, first, nodes, tables),
+        DefinitionKind::Val => val_binding(source, at, first, nodes, tables),
     }
 }
 
@@ -257,7 +252,7 @@ fn definition(
 fn is_end(text: &[u8], place: usize) -> bool
     ensures { AtEnd text.now place result }
 {
-    matches!(look_at(text, place), Look::End)
+    look_at(text, place) == Look::End
 }
 
 // All definitions of the text.
@@ -270,6 +265,7 @@ pub(crate) fn definitions(
     ensures goes { GoesDefinitions result tables.new }
     ensures told { OnDefinitions source.now.text.now (length nodes.old) 0 tables.old nodes.old result tables.new nodes.new }
 {
+    // Definitions are followed: the place is where the last one ended, and no index.
     let mut at = 0;
     'definitions: loop {
         if is_end(source.text, at) {

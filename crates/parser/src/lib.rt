@@ -13,4 +13,4 @@ mod script;
 mod types;
 
 pub use reading::read;
-pub use script::Script;
+pub use script::{Script, is_unused};

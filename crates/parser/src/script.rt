@@ -61,16 +61,14 @@ fn starts_with(nodes: &[Node], first: &[Node]) -> bool
     requires { length first.now ≤ length nodes.now }
     ensures { IsTrue result ↔ (take (length first.now) nodes.now ≡ first.now) }
 {
-    for i in 0..first.len() {
-        if nodes[i] != first[i] {
-            return false;
-        }
-    }
-    true
+    nodes[..first.len()]
+        .iter()
+        .zip(first)
+        .all(|(node, other)| node == other)
 }
 
 // Whether no node uses an entry of these.
-fn is_unused(nodes: &[Node]) -> bool
+pub fn is_unused(nodes: &[Node]) -> bool
     ensures { IsTrue result ↔ (nodes.now ≡ replicate (length nodes.now) unused) }
 {
     nodes.iter().all(|node| *node == Node::UNUSED)

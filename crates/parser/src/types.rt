@@ -1,12 +1,14 @@
 // Type expressions, read into the table of types.
-ghost use Rattle.std.specs.Prelude.{◌≡◌, ℕ, ◌+◌, ◌<◌, ◌≤◌, List, length, IfOk};
+ghost use Rattle.std.specs.Prelude.{◌≡◌, ℕ, ◌+◌, ◌<◌, ◌≤◌, cond, List, length, IfOk};
 ghost use Rattle.grammar.specs.Forms.{two};
 ghost use Rattle.grammar.specs.Reading.{Tally, type_atom, atom_type, read_type, read_types, read_type_list, read_arrow};
 ghost use Rattle.grammar.specs.Sexps.{Sexp, nil, cons};
 ghost use Rattle.layout.specs.TypeEncoding.{encode_type, encode_types};
 ghost use Rattle.parser.specs.TypeParts.{type_form, claimed_type, arrow_head, Seventh, GoesType, GoesTypes, ToldType, OnType, OnTypeList, OnTypes};
 ghost use Rattle.text.specs.Grammar.{Spelt};
+ghost use Rattle.text.specs.Scans.{refused_at};
 ghost use Rattle.text.specs.Tokens.{lexed_from};
+ghost use Rattle.text.specs.declared.refusal.Refusal.TheVariants.{Limit, Form};
 
 use forms::{
     Look, Source, Spot, Survey, behind, closing_at, end_at, look_at, opening_at, over_limit, wrong,
@@ -21,19 +23,20 @@ const TYPES: usize = 512;
 const LISTED: usize = 6;
 
 // One type expression more, at a place: how many are used then.
-fn claim_type(used: usize, place: usize) -> Result<usize, Refused>
+fn claim_type(used: usize, place: u16) -> Result<usize, Refused>
     ensures { result ≡ claimed_type used place }
 {
     if used < TYPES {
         return Ok(used + 1);
     }
-    Err(over_limit(place))
+    Err(over_limit(place as usize))
 }
 
 // A token that is a type by itself. A name has at most 63 bytes, so its size fits.
 fn type_leaf(kind: TokenKind, size: usize) -> Option<TypeForm>
     ensures { result ≡ type_form kind size }
 {
+    // A conversion, case by case: no arm is a step.
     match kind {
         TokenKind::Keyword(Keyword::Int) => Some(TypeForm::Int),
         TokenKind::Keyword(Keyword::Bool) => Some(TypeForm::Bool),
@@ -48,7 +51,21 @@ fn type_leaf(kind: TokenKind, size: usize) -> Option<TypeForm>
 fn is_arrow(seen: Survey) -> bool
     ensures { result ≡ arrow_head seen.head seen.parts }
 {
-    matches!(seen.head, Some(Keyword::Arrow)) && seen.parts == 3
+    seen == Survey {
+        parts: 3,
+        head: Some(Keyword::Arrow),
+    }
+}
+
+// The refusal of one part too many, which is a type by its own shape or is none.
+fn too_many(is_type: bool, place: usize) -> Refused
+    ensures { result ≡ refused_at (cond is_type Limit Form) place }
+{
+    if is_type {
+        over_limit(place)
+    } else {
+        wrong(place)
+    }
 }
 
 // The refusal of a part behind six others: too many if it is a type by its own shape, and otherwise no type.
@@ -56,17 +73,8 @@ fn seventh(source: &Source, place: usize) -> Refused
     ensures { Seventh source.now.text.now place result }
 {
     match look_at(source.text, place) {
-        Look::Atom(kind, at, _) => match type_leaf(kind, 0) {
-            Some(_) => over_limit(at),
-            None => wrong(at),
-        },
-        Look::Open(at, inside) => {
-            if is_arrow(source.survey(inside)) {
-                over_limit(at)
-            } else {
-                wrong(at)
-            }
-        }
+        Look::Atom(kind, at, _) => too_many(type_leaf(kind, 0).is_some(), at),
+        Look::Open(at, inside) => too_many(is_arrow(source.survey(inside)), at),
         Look::Close(at, _) => wrong(at),
         Look::End => wrong(place),
     }
@@ -75,22 +83,22 @@ fn seventh(source: &Source, place: usize) -> Refused
 // A token that is a type by itself, at a place, with the place behind it.
 fn single_type(
     kind: TokenKind,
-    place: usize,
+    place: u16,
     after: usize,
     used: usize,
     types: &mut [TypeNode; 512],
 ) -> Result<Spot, Refused>
-    requires { (place ≤ after) × (after ≤ 65535) }
+    requires { place ≤ after }
     ensures few { IfOk result (λ end. (end.place ≡ after) × (used < end.used) × (end.used ≤ 512)) }
     ensures told { (text w : List ℕ) (n : Tally) → Spelt kind w → after ≡ place + length w → n.types ≡ used → ToldType text (lexed_from text after) (record { place = place; used = used }) types.old (encode_type used) (type_atom place (atom_type kind place w) n) result types.new }
 {
-    let Some(form) = type_leaf(kind, after - place) else {
-        return Err(wrong(place));
+    let Some(form) = type_leaf(kind, after - place as usize) else {
+        return Err(wrong(place as usize));
     };
     let past = claim_type(used, place)?;
     types[used] = TypeNode {
         form,
-        place: place as u16,
+        place,
         past: past as u16,
     };
     Ok(Spot {
@@ -111,7 +119,7 @@ pub(crate) fn type_at(
     ensures told { OnType source.now.text.now spot types.old encode_type (read_type depth) result types.new }
 {
     match look_at(source.text, spot.place) {
-        Look::Atom(kind, at, after) => single_type(kind, at, after, spot.used, types),
+        Look::Atom(kind, at, after) => single_type(kind, at as u16, after, spot.used, types),
         Look::Open(at, inside) => {
             if depth == 0 {
                 return Err(wrong(at));
@@ -123,7 +131,7 @@ pub(crate) fn type_at(
                 place: behind(source.text, inside),
                 ..spot
             };
-            function_type(source, at, first, types, depth - 1)
+            function_type(source, at as u16, first, types, depth - 1)
         }
         Look::Close(at, _) => Err(wrong(at)),
         Look::End => Err(wrong(spot.place)),
@@ -134,12 +142,11 @@ pub(crate) fn type_at(
 #[cycle(type_at)]
 fn function_type(
     source: &Source,
-    place: usize,
+    place: u16,
     spot: Spot,
     types: &mut [TypeNode; 512],
     depth: usize,
 ) -> Result<Spot, Refused>
-    requires { place ≤ length source.now.text.now }
     ensures goes { GoesType source.now.text.now spot result }
     ensures told { (ps t : Sexp) → OnTypeList source.now.text.now spot types.old encode_type (cons ps (cons t nil)) (read_arrow (read_type depth) place (two ps t)) result types.new }
 {
@@ -157,7 +164,7 @@ fn function_type(
     let after = end_at(source.text, end.place)?;
     types[spot.used] = TypeNode {
         form: TypeForm::Function,
-        place: place as u16,
+        place,
         past: end.used as u16,
     };
     Ok(Spot {

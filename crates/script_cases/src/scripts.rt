@@ -2,7 +2,7 @@
 use super::rows::rows_of;
 use case_files::{Found, Refused, Trial};
 use layout::{Node, NodeForm};
-use parser::{Script, read};
+use parser::{Script, is_unused, read};
 use std::alloc::{AllocError, Global};
 
 // How many entries a node list has where a case does not say.
@@ -32,10 +32,6 @@ impl Scripts {
     pub fn new() -> Scripts {
         Scripts { lent: LENT }
     }
-}
-
-fn is_unused(nodes: &[Node]) -> bool {
-    nodes.iter().all(|node| *node == Node::UNUSED)
 }
 
 // Whether the script knows the node list again, and not with its first entry changed.

@@ -32,7 +32,7 @@ pub returns-clause-goes : goal.returns-clause-goes
 returns-clause-goes c =
     let t = c.args.tables.now in
     let functions : c.note.new.functions.count ≤ t.functions.count + 1 = subst (λ f. f.count ≤ t.functions.count + 1) (sym c.note.ensures) (noted_count c.args.source.now.text.now Annotation c.word-word.result t.counts.definitions t.functions) in
-    let bounds = c.requires.1 in
+    let bounds = c.requires in
     let name = c.in_ok-name.ensures.goes in
     let type = c.in_ok-end.ensures.goes in
     let closes = c.in_ok-after.ensures in
