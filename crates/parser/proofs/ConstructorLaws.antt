@@ -23,11 +23,11 @@ use Rattle.layout.proofs.Sizes.{length_types}
 use Rattle.forms.specs.Looks.{Seen, NotClosing, Closes}
 use Rattle.forms.specs.Progress.{puts}
 use Rattle.forms.specs.Rows.{closed_by}
-use Rattle.forms.specs.Pairs.{Pair, Paired, pair_of}
+use Rattle.forms.specs.Pairs.{Pair, pair_of}
 use Rattle.forms.specs.declared.names.NameAt.{NameAt}
 use Rattle.forms.specs.declared.sight.Opened.{Opened}
 use Rattle.forms.specs.declared.spot.Spot.{Spot}
-use Rattle.forms.proofs.PairLaws.{pair_made, pair_refused}
+use Rattle.forms.proofs.PairLaws.{pair_made}
 use Rattle.forms.proofs.LookLaws.{is_list}
 use Rattle.forms.proofs.RowLaws.{left_none, left_some, puts-++}
 use Rattle.parser.specs.Listing.{ToldMark, OnMark, OnMarks, listed, alone, all}
@@ -124,7 +124,7 @@ module _ (text : List ℕ) (mark : Mark) (ts : List TypeNode) (cs : List Constru
                 ap (set cs mark.constructors) same,
               )
 
--- A list of two parts, or another one.
+-- A list of two parts.
 module _ (text : List ℕ) (mark : Mark) (ts : List TypeNode) (cs : List Constructor) (k entries : ℕ) where
   pair_reads : (s : Sexp) (n : Tally) → read_constructor entries s n ≡ constructor_of entries (place s) (pair_of s) n
   pair_reads (atom j p w) n = refl
@@ -142,10 +142,6 @@ module _ (text : List ℕ) (mark : Mark) (ts : List TypeNode) (cs : List Constru
       again (refused x) r t = t
       again (made c m) (Ok end) t = t
       again (made c m) (Err x) t = t
-
-  pub constructor_wrong : (z : Refused) (ts' : List TypeNode) (cs' : List Constructor) → ((s : Sexp) (rest : Lexed) → lexed_from text mark.place ≡ stream s rest → Atoms s → Paired text rest s (Err z)) → OnMark alone k text mark ts cs (read_constructor entries) (Err z) ts' cs'
-  constructor_wrong z ts' cs' pairs s rest n e a u v =
-      subst (λ o. ToldMark alone k text rest mark ts cs o (Err z) ts' cs') (sym (pair_refused (constructor_of entries) (read_constructor entries) pair_reads text rest s n (λ p. refl) z (pairs s rest e a))) refl
 
 -- Constructor definitions in a list.
 abbrev pub OnRow : List ℕ → ℕ → ℕ → Mark → List TypeNode → List Constructor → Result Mark Refused → List TypeNode → List Constructor → Type 0

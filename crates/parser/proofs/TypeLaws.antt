@@ -1,8 +1,7 @@
 -- What each reader of types tells, by what the readers that it calls tell.
-use Rattle.std.proofs.Common.{◌≡◌, ℕ, zero, suc, ◌+◌, ◌-◌, ◌<◌, ◌≤◌, min, Bool, true, false, cond, eqb, ltb, List, [], ◌∷◌, ◌++◌, length, set, Some, None, Ok, Err, Option, Result, sym, refl, ap, ◌∙◌, subst, add-zero, arith, le-ltb, lt-ltb, ne_eqb}
+use Rattle.std.proofs.Common.{◌≡◌, ℕ, zero, suc, ◌+◌, ◌-◌, ◌<◌, ◌≤◌, min, Bool, true, false, cond, eqb, ltb, List, ◌∷◌, ◌++◌, length, set, Some, None, Ok, Err, Option, Result, sym, refl, ap, ◌∙◌, subst, add-zero, arith, le-ltb, lt-ltb, ne_eqb}
 use Rattle.std.proofs.lemmas.Bool.{cond-true, cond-false}
-use Rattle.std.specs.Option as option
-use Rattle.text.specs.Grammar.{NoBracket, Spelt}
+use Rattle.text.specs.Grammar.{NoBracket}
 use Rattle.text.specs.Scans.{refused_at}
 use Rattle.text.specs.Tokens.{Lexed, lexed_from}
 use Rattle.text.specs.declared.bracket.Bracket.{Bracket}
@@ -15,18 +14,17 @@ use Rattle.text.specs.declared.token.TokenKind.TheVariants as kind
 use Rattle.grammar.specs.Forms.{is_key, kind_head, Two, two, not_two, two_of, arrowed, arrow_of}
 use Rattle.grammar.specs.Limits.{type_count, types_count}
 use Rattle.forms.specs.Looks.{Seen, NotClosing, Closes, Behind}
-use Rattle.grammar.specs.Reading.{Tally, Outcome, refused, made, and_then, wrong, over_limit, count_type, atom_type, type_atom, is_some, is_two, type_shaped, read_types, read_type_list, read_arrow, read_type}
+use Rattle.grammar.specs.Reading.{Tally, Outcome, refused, made, and_then, wrong, over_limit, count_type, atom_type, type_atom, is_two, type_shaped, read_types, read_type_list, read_arrow, read_type}
 use Rattle.forms.specs.Rows.{closed_by}
 use Rattle.grammar.specs.Sexps.{Sexp, atom, list, Sexps, nil, cons, place, AllAtoms}
 use Rattle.grammar.specs.Streams.{stream, count, first_head}
 use Rattle.forms.specs.Surveys.{surveyed}
-use Rattle.grammar.specs.Trees.{TypeExpr, int_type, bool_type, sym_type, unit_type, datatype, function_type_rule, TypeExprs, and_type}
+use Rattle.grammar.specs.Trees.{TypeExpr, function_type_rule, TypeExprs, and_type}
 use Rattle.layout.specs.TypeEncoding.{node_of_type, encode_type, encode_types}
-use Rattle.parser.specs.TypeParts.{keyword_type_form, type_form, claimed_type, arrow_head, over_many, Seventh, ToldType, OnType, OnTypeList, OnTypes}
+use Rattle.parser.specs.TypeParts.{claimed_type, arrow_head, over_many, Seventh, ToldType, OnType, OnTypeList, OnTypes}
 use Rattle.forms.specs.declared.spot.Spot.{Spot}
 use Rattle.forms.specs.declared.survey.Survey.{Survey}
 use Rattle.layout.specs.declared.type_node.TypeNode.{TypeNode}
-use Rattle.layout.specs.declared.type_node.TypeForm.{TypeForm}
 use Rattle.layout.specs.declared.type_node.TypeForm.TheVariants as form
 use Rattle.layout.proofs.Sizes.{length_type, length_types}
 use Rattle.forms.proofs.FormLaws.{at_most_six}
@@ -52,64 +50,6 @@ granted {A} used p m n next e h = go (ltb used 512) refl h
     go : (b : Bool) → ltb used 512 ≡ b → ◌≡◌ {A = Result ℕ Refused} (cond b (Ok (used + 1)) (Err (refused_at refusal.Limit p))) (Ok m) → (m ≡ used + 1) × (count_type p n next ≡ next (one_type n))
     go true t h = (cc, (let t' : ltb n.types 512 ≡ true = ap (λ u. ltb u 512) e ∙ t in rw t' refl))
     go false t h = absurd (clash cc)
-
-denied : {A : Type 0} (used p : ℕ) (x : Refused) (n : Tally) (next : Tally → Outcome A) → n.types ≡ used → claimed_type used p ≡ Err x → count_type p n next ≡ refused x
-denied {A} used p x n next e h = go (ltb used 512) refl h
-  where
-    go : (b : Bool) → ltb used 512 ≡ b → ◌≡◌ {A = Result ℕ Refused} (cond b (Ok (used + 1)) (Err (refused_at refusal.Limit p))) (Err x) → count_type p n next ≡ refused x
-    go true t h = absurd (clash cc)
-    go false t h = let t' : ltb n.types 512 ≡ false = ap (λ u. ltb u 512) e ∙ t in let q : refused_at refusal.Limit p ≡ x = cc in rw t' (ap refused q)
-
--- whether a token is a type, in the code and in the rules
-pub atom_typed : (k : TokenKind) (p n : ℕ) (w : List ℕ) → is_some (atom_type k p w) ≡ option.is_some (type_form k n)
-atom_typed (kind.Integer z) p n w = refl
-atom_typed kind.Symbol p n w = refl
-atom_typed kind.Name p n w = refl
-atom_typed (kind.Keyword k) p n w = go (is_key k keyword.Int) (is_key k keyword.Bool) (is_key k keyword.Sym) (is_key k keyword.Unit)
-  where
-    go : (a b c d : Bool)
-        → is_some (cond a (Some (int_type p)) (cond b (Some (bool_type p)) (cond c (Some (sym_type p)) (cond d (Some (unit_type p)) None)))) ≡ option.is_some (cond a (Some form.Int) (cond b (Some form.Bool) (cond c (Some form.Sym) (cond d (Some form.Unit) None))))
-    go true b c d = refl
-    go false true c d = refl
-    go false false true d = refl
-    go false false false true = refl
-    go false false false false = refl
-atom_typed (kind.Open r) p n w = refl
-atom_typed (kind.Close r) p n w = refl
-
-record Leaf (k : TokenKind) (p : ℕ) (w : List ℕ) (f : TypeForm) : Type 0 where
-  pub type : TypeExpr
-  pub is : atom_type k p w ≡ Some type
-  pub lies : (i : ℕ) → encode_type i type ≡ node_of_type f p (i + 1) ∷ []
-
-a_keyword : (k : Keyword) (p : ℕ) (w : List ℕ) (f : TypeForm) → keyword_type_form k ≡ Some f → Leaf (kind.Keyword k) p w f
-a_keyword k p w f e = go (is_key k keyword.Int) refl (is_key k keyword.Bool) refl (is_key k keyword.Sym) refl (is_key k keyword.Unit) refl e
-  where
-    go : (a : Bool) → is_key k keyword.Int ≡ a → (b : Bool) → is_key k keyword.Bool ≡ b → (c : Bool) → is_key k keyword.Sym ≡ c → (d : Bool) → is_key k keyword.Unit ≡ d
-        → ◌≡◌ {A = Option TypeForm} (cond a (Some form.Int) (cond b (Some form.Bool) (cond c (Some form.Sym) (cond d (Some form.Unit) None)))) (Some f) → Leaf (kind.Keyword k) p w f
-    go true t b u c v d x e = let q : form.Int ≡ f = cc in record { type = int_type p; is = rw t refl; lies = λ i. ap (λ g. node_of_type g p (i + 1) ∷ []) q }
-    go false t true u c v d x e = let q : form.Bool ≡ f = cc in record { type = bool_type p; is = rw (t, u) refl; lies = λ i. ap (λ g. node_of_type g p (i + 1) ∷ []) q }
-    go false t false u true v d x e = let q : form.Sym ≡ f = cc in record { type = sym_type p; is = rw (t, u, v) refl; lies = λ i. ap (λ g. node_of_type g p (i + 1) ∷ []) q }
-    go false t false u false v true x e = let q : form.Unit ≡ f = cc in record { type = unit_type p; is = rw (t, u, v, x) refl; lies = λ i. ap (λ g. node_of_type g p (i + 1) ∷ []) q }
-    go false t false u false v false x e = absurd (clash cc)
-
-a_leaf : (k : TokenKind) (p : ℕ) (w : List ℕ) (f : TypeForm) → Spelt k w → type_form k (length w) ≡ Some f → Leaf k p w f
-a_leaf (kind.Integer z) p w f spelt e = absurd (clash cc)
-a_leaf kind.Symbol p w f spelt e = absurd (clash cc)
-a_leaf kind.Name p w f spelt e =
-    let few = spelt.3 in
-    let m : length w ≡ min (length w) 255 = omega arith in
-    let q : form.Datatype (min (length w) 255) ≡ f = cc in
-    record { type = datatype (record { place = p; bytes = w }); is = refl; lies = λ i. ap (λ g. node_of_type g p (i + 1) ∷ []) (ap form.Datatype m ∙ q) }
-a_leaf (kind.Keyword k) p w f spelt e = a_keyword k p w f e
-a_leaf (kind.Open r) p w f spelt e = absurd (clash cc)
-a_leaf (kind.Close r) p w f spelt e = absurd (clash cc)
-
--- A single token, by what the code's parts answer.
-module _ (text w : List ℕ) (k : TokenKind) (place after used : ℕ) (f : TypeForm) (ts : List TypeNode) (n : Tally) (rest : Lexed)
-    (spelt : Spelt k w) (some : Some f ≡ type_form k (length w)) (same : n.types ≡ used) where
-  leaf : Leaf k place w f
-  leaf = a_leaf k place w f spelt (sym some)
 
 -- A function type has a word at its head, and two parts behind it.
 data View : Sexps → Bool → Two → Type 0 where
@@ -156,11 +96,6 @@ view_false _ _ _ e no_arrow = refl
 -- The seventh part of a list.
 shaped : (s : Sexp) (b : Bool) → type_shaped s ≡ b → (x : Refused) → x ≡ refused_at (cond b refusal.Limit refusal.Form) (place s) → x ≡ over_many s
 shaped s b h x is = is ∙ sym (ap (λ b. refused_at (cond b refusal.Limit refusal.Form) (place s)) h)
-
-pub seventh_atom : (text : List ℕ) (at : ℕ) (k : TokenKind) (w : List ℕ) (p after : ℕ) (b : Bool) (x : Refused) → Seen text at k w p after → NoBracket k → is_some (atom_type k p w) ≡ b → x ≡ refused_at (cond b refusal.Limit refusal.Form) p → Seventh text at x
-seventh_atom text at k w p after b x seen nb h is s rest e a =
-    let l = is_atom k p w (lexed_from text after) s rest nb (sym seen.follows ∙ e) in
-    subst (λ s. x ≡ over_many s) (sym l.0) (shaped (atom k p w) b h x is)
 
 pub seventh_list : (text : List ℕ) (at : ℕ) (k : Bracket) (w : List ℕ) (p inside : ℕ) (survey : Survey) (b : Bool) (x : Refused) → Seen text at (kind.Open k) w p inside → survey ≡ surveyed (lexed_from text inside)
     → b ≡ arrow_head survey.head survey.parts → x ≡ refused_at (cond b refusal.Limit refusal.Form) p → Seventh text at x

@@ -1,4 +1,5 @@
 // Constructors, read into the table of constructors and their field types into the table of types.
+// Each table is a loan of its own and stays a parameter; `goes` stands on each reader, in one word, for the reader behind it.
 ghost use Rattle.std.specs.Prelude.{◌≡◌, ℕ, ◌≤◌, length};
 ghost use Rattle.grammar.specs.Forms.{two};
 ghost use Rattle.grammar.specs.Reading.{constructor_of, read_constructor, read_constructors, read_constructor_list};

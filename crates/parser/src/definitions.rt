@@ -1,5 +1,7 @@
 // Definitions, read into the tables and the node list.
 // `Bounded` stays in the contracts: `Tables` is a public type that anybody may write, and the bound holds of tables that are being filled.
+// The place, what stands inside and the tables stay parameters, each a loan or a number of its own; `goes` stands on each reader, in one word,
+// for the definition behind it.
 ghost use Rattle.std.specs.Prelude.{◌≡◌, ℕ, ◌<◌, ◌≤◌, List, length, slice_set};
 ghost use Rattle.grammar.specs.Forms.{datatype_form_rule, annotation_form_rule, define_form_rule, val_form_rule};
 ghost use Rattle.grammar.specs.Reading.{read_expr, read_definition_form, read_definition};

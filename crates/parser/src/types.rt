@@ -1,4 +1,5 @@
 // Type expressions, read into the table of types.
+// The spot, the table and the depth stay parameters: each changes by itself from one reader to the next.
 ghost use Rattle.std.specs.Prelude.{◌≡◌, ℕ, ◌+◌, ◌<◌, ◌≤◌, cond, List, length, IfOk};
 ghost use Rattle.grammar.specs.Forms.{two};
 ghost use Rattle.grammar.specs.Reading.{Tally, type_atom, atom_type, read_type, read_types, read_type_list, read_arrow};

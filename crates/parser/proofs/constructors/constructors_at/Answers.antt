@@ -3,10 +3,6 @@ use Rattle.std.proofs.lemmas.Result.{err_from_is_err_and}
 use Rattle.parser.proofs.ConstructorLaws.{row_end, row_stop, row_next}
 use Rattle.parser.proofs.constructors.constructors_at.Goals as goal
 
-pub parts-init : goal.parts-init
-parts-init c =
-    (omega arith, omega arith, omega arith, omega arith, λ entries r ts' cs' h. h)
-
 pub returns-in-Some-clause-told : goal.returns-in-Some-clause-told
 returns-in-Some-clause-told c =
     λ entries. c.parts.invariant.4 entries _ _ _ (row_end c.args.source.now.text.now c.args.datatype entries c.parts.at c.parts.types c.parts.table c.in-Some.after c.in-Some.ensures)
