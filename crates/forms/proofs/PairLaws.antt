@@ -11,8 +11,8 @@ use Rattle.forms.specs.Rows.{closed_by}
 use Rattle.forms.specs.Pairs.{Pair, Paired, pair_of}
 use Rattle.forms.specs.Surveys.{surveyed}
 use Rattle.forms.specs.declared.sight.Opened.{Opened}
-use Rattle.grammar.specs.Forms.{Two, two, not_two}
-use Rattle.grammar.specs.Reading.{Tally, Outcome, refused, wrong}
+use Rattle.grammar.specs.Forms.{Two, two}
+use Rattle.grammar.specs.Reading.{Tally, Outcome}
 use Rattle.grammar.specs.Sexps.{Sexp, list, Atoms, AllAtoms, place}
 use Rattle.grammar.specs.Streams.{stream, count}
 use Rattle.forms.proofs.FormLaws.{count_two, other_two}
@@ -49,6 +49,3 @@ module _ (text : List ℕ) (from : ℕ) (k : Bracket) (w : List ℕ) (o : Opened
 module _ {A : Type 0} (of : ℕ → Two → Tally → Outcome A) (read : Sexp → Tally → Outcome A) (reads : (s : Sexp) (n : Tally) → read s n ≡ of (place s) (pair_of s) n) (text : List ℕ) (rest : Lexed) (s : Sexp) (n : Tally) where
   pub pair_made : (o : Opened) (pair : Pair text rest s o) → read s n ≡ of o.place (two pair.first pair.second) n
   pair_made o pair = reads s n ∙ ap (λ t. of (place s) t n) pair.parts ∙ ap (λ p. of p (two pair.first pair.second) n) pair.begins
-
-  pub pair_refused : ((p : ℕ) → of p not_two n ≡ wrong p) → (x : Refused) → Paired text rest s (Err x) → read s n ≡ refused x
-  pair_refused none x pair = reads s n ∙ ap (λ t. of (place s) t n) pair.0 ∙ none (place s) ∙ ap refused (sym pair.1)

@@ -37,7 +37,7 @@ use Rattle.layout.specs.declared.node.NodeForm.TheVariants as form
 use Rattle.forms.specs.declared.patterns.PatternAt.{PatternAt}
 use Rattle.forms.specs.declared.sight.Opened.{Opened}
 use Rattle.forms.specs.declared.spot.Spot.{Spot}
-use Rattle.forms.proofs.AtomLaws.{one_node, granted, denied}
+use Rattle.forms.proofs.AtomLaws.{one_node, granted}
 use Rattle.forms.proofs.FormLaws.{View, is_if, is_begin, is_let, is_case, is_dup, is_apply, is_wrong, kind_capped, view}
 use Rattle.forms.proofs.LookLaws.{is_atom, is_list}
 use Rattle.forms.proofs.PairLaws.{pair_made}
@@ -87,10 +87,6 @@ one_alike read i e n = go (read e n)
 
 -- A node that is claimed, before what it holds.
 module _ (text : List ℕ) (spot : Spot) (ns : List Node) (entries p : ℕ) where
-  pub claim_refused : {A : Type 0} (f : A → List Node) (rest : Lexed) (n : Tally) (next : Tally → Outcome A) (x : Refused) (now : List Node) → n.nodes ≡ spot.used → claimed spot.used entries p ≡ Err x
-      → Told text rest spot ns f (count_node entries p n next) (Err x) now
-  claim_refused f rest n next x now u c = subst (λ o. Told text rest spot ns f o (Err x) now) (sym (denied entries spot.used p x n next u c)) refl
-
   pub claim_granted : {A : Type 0} (f : A → List Node) (rest : Lexed) (n : Tally) (next : Tally → Outcome A) (m : ℕ) (r : Result Spot Refused) (now : List Node) → n.nodes ≡ spot.used → claimed spot.used entries p ≡ Ok m
       → ((one_node n).nodes ≡ m → m ≡ spot.used + 1 → Told text rest spot ns f (next (one_node n)) r now) → Told text rest spot ns f (count_node entries p n next) r now
   claim_granted f rest n next m r now u c h =

@@ -1,6 +1,6 @@
 -- One part more of a list, and its end.
 use Rattle.std.proofs.Common.{◌≡◌, ℕ, ◌+◌, List, [], ◌∷◌, ◌++◌, length, set, Ok, Err, sym, refl, ap, ◌∙◌, subst, add-zero, arith}
-use Rattle.std.proofs.lemmas.List.{append-nil, append_assoc, length-append, length-set}
+use Rattle.std.proofs.lemmas.List.{append-nil, append_assoc, length-append}
 use Rattle.text.specs.Tokens.{lexeme, Lexed, also, lexed_from}
 use Rattle.text.specs.declared.bracket.Bracket.{Bracket}
 use Rattle.text.specs.declared.refusal.Refused.{Refused}
@@ -20,10 +20,6 @@ puts-++ ns i [] b = ap (λ j. puts ns j b) (sym (add-zero i))
 puts-++ ns i (x ∷ a) b =
     let e : i + 1 + length a ≡ i + length (x ∷ a) = omega arith in
     puts-++ (set ns i x) (i + 1) a b ∙ ap (λ j. puts (puts (set ns i x) (i + 1) a) j b) e
-
-pub length_puts : {E : Type 0} (ns : List E) (i : ℕ) (a : List E) → length (puts ns i a) ≡ length ns
-length_puts ns i [] = refl
-length_puts ns i (x ∷ a) = length_puts (set ns i x) (i + 1) a ∙ length-set ns i x
 
 clash : ◌≡◌ {A = ℕ} 0 1 → ⊥
 clash z = omega arith

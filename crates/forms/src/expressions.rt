@@ -1,5 +1,6 @@
 // Expressions, their branches and bindings, read into the node list.
 // The source, a spot and the node list stay parameters, and no reader holds them: each loan is its own, and a contract speaks of plain values.
+// `goes` stands on each reader, in one word, for the reader behind it; the bound of a spot stays a clause too (see its type).
 // The loops over expressions, bindings and branches stay three: a part's reader as a parameter is a call through a cycle, which gets no proof.
 ghost use Rattle.std.specs.Prelude.{◌≡◌, ℕ, ◌+◌, ◌≤◌, List, length, IfOk};
 ghost use Rattle.forms.specs.Drafts.{encode};
