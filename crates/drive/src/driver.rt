@@ -1,5 +1,3 @@
-// Store, model and tally stay parameters of their own: with a struct that lends the store and the model, the borrow
-// checker covers no function that makes one and calls its methods.
 use crate::calls::{Call, Source};
 use crate::model::Model;
 use crate::tally::Tally;

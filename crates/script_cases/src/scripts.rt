@@ -1,12 +1,9 @@
 // What reading finds of the text of a case.
 use super::rows::rows_of;
 use case_files::{Found, Refused, Trial};
-use layout::{Node, NodeForm};
+use layout::{NODES, Node, NodeForm};
 use parser::{Script, is_unused, read};
 use std::alloc::{AllocError, Global};
-
-// How many entries a node list has where a case does not say.
-const LENT: usize = 4096;
 
 // What stands in the node list before a case.
 const USED: Node = Node {
@@ -30,7 +27,7 @@ pub struct Scripts {
 
 impl Scripts {
     pub fn new() -> Scripts {
-        Scripts { lent: LENT }
+        Scripts { lent: NODES }
     }
 }
 
@@ -62,7 +59,7 @@ impl Trial for Scripts {
 
     fn found(&mut self, heap: Global, text: &[u8]) -> Result<Found, AllocError> {
         let mut nodes = vec![in heap; USED; self.lent]?;
-        self.lent = LENT;
+        self.lent = NODES;
         match read(text, &mut nodes) {
             Ok(script) => {
                 let count = script.nodes().len();
