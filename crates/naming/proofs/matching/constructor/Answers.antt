@@ -1,7 +1,9 @@
-use Rattle.std.proofs.Common.{◌≡◌, true, false, Err, sym, subst, rules}
+use Rattle.std.proofs.Common.{◌≡◌, true, false, Err, slice_set, sym, subst, rules}
 use Rattle.std.specs.Option.{is_some}
 use Rattle.grammar.specs.Trees.{constructor}
 use Rattle.naming.specs.Binding.{MatchesAnswers}
+use Rattle.program.specs.Compiling.{code}
+use Rattle.program.specs.declared.code.Op.TheVariants as op
 use Rattle.naming.specs.Judges.{desk, text_of}
 use Rattle.naming.proofs.BindLaws.{some_local, no_local_has}
 use Rattle.naming.proofs.MatchLaws.{matched_local, matched_head, matched_unlike, matched_names, matched}
@@ -49,9 +51,11 @@ returns-clause-matched c script x xs set ready spells at =
     let k = c.in_ok-k.k in
     let global = c.in_ok-k.ensures script set in
     let variant = c.variant-variant.ensures text script c.part-name.result.now set.known global in
+    let node = c.node_at.result in
+    let noted : c.note.new.codes ≡ slice_set c.args.codes.now c.args.i (code (op.Branch k c.in_ok-bits.bits) node.place node.past) = search rules in
     matched world script set old ready c.args.datatype c.args.i c.args.height c.args.codes.now h.place h.name x xs c.part-name.result.now spells c.part-name.ensures
     free k global c.variant-variant.result variant c.fits.result (c.fits.ensures xs set.short at) c.if-not-fits.false h.inside at c.in_ok-bits.bits (desk c.bind_parts.new.scope c.bind_parts.new.locals) c.in_ok-bits.ensures.bound
-    c.node_at.result c.note.new.codes c.node_at.ensures c.note.ensures
+    node c.note.new.codes c.node_at.ensures noted
 
 pub returns-in_err-bits-clause-matched : goal.returns-in_err-bits-clause-matched
 returns-in_err-bits-clause-matched c script x xs set ready spells at =
