@@ -1,4 +1,4 @@
-use Rattle.std.proofs.Common.{◌≡◌, ◌+◌, ◌<◌, length, sym, ap, ◌∙◌, subst, arith}
+use Rattle.std.proofs.Common.{◌≡◌, ◌+◌, ◌<◌, length, slice_set, sym, ap, ◌∙◌, subst, rules, arith}
 use Rattle.grammar.specs.Limits.{type_count}
 use Rattle.layout.specs.declared.type_node.TypeNode.{TypeNode}
 use Rattle.type_rows.specs.TypeExprs.{types_listed, row_of, expr_at, head_shape}
@@ -22,7 +22,8 @@ loop-k-preserved c = λ P script laid datatypes.
     ap (λ s. record { shape = s; past = c.type_at.result.past; result = c.result_row.result }) here.0
     ∙ ap (λ p. record { shape = head_shape P (expr_at all k); past = p; result = c.result_row.result }) past
     ∙ ap (λ r. record { shape = head_shape P (expr_at all k); past = k + type_count (expr_at all k); result = r }) result in
-    subst (Resolving P all (k + 1)) (sym c.put.ensures) (resolving_next P all k c.loop-k.rows.rows row low few is here.1 (c.loop-k.invariant P script laid datatypes))
+    let put : c.put.new.self.rows ≡ slice_set c.loop-k.rows.rows k row = search rules in
+    subst (Resolving P all (k + 1)) (sym put) (resolving_next P all k c.loop-k.rows.rows row low few is here.1 (c.loop-k.invariant P script laid datatypes))
 
 pub returns : goal.returns
 returns c = λ P script laid datatypes.

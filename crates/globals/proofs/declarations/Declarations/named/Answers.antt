@@ -5,7 +5,7 @@ use Rattle.globals.proofs.GlobalLaws.{bound_means, unbound_means, basis_means}
 use Rattle.globals.proofs.declarations.Declarations.named.Goals as goal
 
 pub returns-in-Some : goal.returns-in-Some
-returns-in-Some c = λ script n. bound_means c.args.text.now c.args.self.now script n c.args.name.now c.in-Some.k (c.in-Some.ensures.found n.bound)
+returns-in-Some c = λ script n. search (rules, bound_means c.args.text.now c.args.self.now script n c.args.name.now c.in-Some.k (c.in-Some.ensures.found n.bound))
 
 pub returns-in-None : goal.returns-in-None
 returns-in-None c = λ script n.

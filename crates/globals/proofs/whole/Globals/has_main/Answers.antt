@@ -5,6 +5,8 @@ use Rattle.globals.specs.Tallies.{meaning_of}
 use Rattle.globals.specs.declared.global.Global.TheVariants as machine
 use Rattle.program.specs.Programs.{program}
 use Rattle.type_rows.specs.Rows.{IsKind}
+use Rattle.type_rows.specs.Signatures.{root_of}
+use Rattle.type_rows.specs.declared.value_type.ValueType.TheVariants as value
 use Rattle.type_rows.specs.Shapes.{ty}
 use Rattle.type_rows.specs.TypeExprs.{types_listed}
 use Rattle.type_rows.proofs.ScriptRows.{basis_meant}
@@ -21,7 +23,7 @@ returns c = λ script known.
     let main : c.named.result ≡ Some (machine.Function c.in-Some-Function.n) = search rules in
     let means-n = sym (c.named.ensures script known) ∙ ap meaning_of main in
     let is = c.function_type.ensures text script (codes "main") known means-n in
-    let newline = c.basis_type.ensures in
+    let newline : c.basis_type.result ≡ value.Function (root_of PrintNewline) = search rules in
     main_function text g script known c.in-Some-Function.n c.function_type.result c.same.result means-n is
     (c.same.ensures m known.mean is.valid (subst (IsKind g.rows.rows) (sym newline) (basis_valid text g script known PrintNewline))
     ∙ ap (λ k. same_type (ty m c.function_type.result) (ty m k)) newline ∙ ap (same_type (ty m c.function_type.result)) (basis_meant (program script) (types_listed script) PrintNewline))
