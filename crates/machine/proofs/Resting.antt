@@ -1,5 +1,5 @@
 -- How a change of the machine carries what it mirrors.
-use Rattle.std.proofs.Common.{◌≡◌, ℕ, suc, ◌+◌, List, [], ◌∷◌, ◌++◌, map, length, drop, None, Result, Err, sym, refl, ap, ◌∙◌, subst, arith}
+use Rattle.std.proofs.Common.{◌≡◌, ℕ, suc, ◌+◌, List, [], ◌∷◌, ◌++◌, map, length, None, Result, Err, sym, refl, ap, ◌∙◌, subst, arith}
 use Rattle.std.specs.Bool.{⊤}
 use Rattle.std.specs.Result.{IsErrAnd}
 use Rattle.std.proofs.lemmas.Result.{err_from_is_err_and}
@@ -12,7 +12,7 @@ use Rattle.data.specs.Taking.{Out, out_plain}
 use Rattle.data.specs.Trees.{Tree, Trees, none, more}
 use Rattle.grammar.specs.Trees.{Expr}
 use Rattle.machine.specs.Holding.{values_in, is_full, trees_in, holds, names, kept, capped}
-use Rattle.machine.specs.Mirrors.{Rests, Mirrors, mirrors, Moved, moved_on, moved_not, moved_any, Printed, printed_on, printed_not, printed_any, Under, as_printing}
+use Rattle.machine.specs.Mirrors.{Rests, Mirrors, mirrors, Moved, moved_on, moved_not, moved_any, Printed, printed_on, printed_not, printed_any, as_printing}
 use Rattle.machine.specs.Waiting.{Waits, waits_none, waits_test, waits_arm, waits_part, waits_binding, waits_leaving, waits_tested, waits_head, waits_argument, waits_field, waits_body, waits_main, Next, next_enter, value_in_hand}
 use Rattle.machine.specs.declared.control.Control.{Control as Ahead}
 use Rattle.machine.specs.declared.control.Control.TheVariants as ahead
@@ -187,23 +187,6 @@ silent {P} {Z} {m₀} {m} {s} {o} {r = r} {old = old} {new = new} is e h = subst
 -- what the rules say may be written in another way
 pub by_printing : {P : Program} {Z : Sizes} {m₀ m : Cells} {s : State} {old new : List ℕ} {o o' : Outcome} {t : Result ℕ Halt} {r : Machine} → o ≡ o' → Printed P Z m₀ s old o' t r m new → Printed P Z m₀ s old o t r m new
 by_printing {P} {Z} {m₀} {m} {s} {old} {new} {t = t} {r = r} e h = subst (λ o. Printed P Z m₀ s old o t r m new) (sym e) h
-
--- what lies above is taken off
-pub uncovered : {P : Program} {Z : Sizes} {m₀ m : Cells} {n : ℕ} {K : List Frame} {env : Environment} {a : Account} {r : Machine} → Under P Z m₀ n K env a r m
-    → (fs : Stack Waiting) (ss : Stack Slot) → room_of fs ≡ room_of r.frames → tops fs ≡ drop 1 (tops r.frames) → room_of ss ≡ room_of r.slots → tops ss ≡ drop n (tops r.slots)
-    → Rests P Z m₀ K env a [] none (changed r fs ss r.control r.taken r.given) m
-uncovered {P} {Z} {m₀} {m} {n} {K} {env} {r = r} U fs ss froom ftops sroom stops = record {
-  ready = U.ready;
-  frames_room = froom ∙ U.frames_room;
-  slots_room = sroom ∙ U.slots_room;
-  frames = subst (Waits P r.script.now.code (names env) K) (sym ftops) U.frames;
-  full = ap (map is_full) stops ∙ U.full;
-  data_held = subst (λ q. Out m (values_in q) (trees_in (env ++ kept K)) m₀) (sym stops) U.data_held;
-  cells = U.cells;
-  input = U.input;
-  taken = U.taken;
-  given = U.given;
-}
 
 -- the value in hand may be written in another way
 pub in_hand_law : {P : Program} {Z : Sizes} {m₀ m : Cells} {K : List Frame} {env : Environment} {a : Account} {u v : Value} {vs : List Value} {ts : Trees} {r : Machine} → v ≡ u

@@ -1,4 +1,4 @@
-use Rattle.std.proofs.Common.{◌+◌, inl, inr, ◌∷◌, sym, refl, ap, ◌∙◌, subst, arith}
+use Rattle.std.proofs.Common.{◌+◌, inl, inr, ◌∷◌, sym, refl, ap, ◌∙◌, subst}
 use Rattle.calling.proofs.Functions.{call_basis_rule, define_as, says_last}
 use Rattle.calling.proofs.Plains.{answered_last}
 use Rattle.calling.proofs.Spreads.{last_under, last_ripe}
@@ -22,10 +22,6 @@ returns-in-Ok-clause-law c = λ P Z m₀ m s k K env a p es t top others M R sta
           (c.conclude.ensures.law P Z m₀ m s K o.left a M (subst (λ n. Under P Z m₀ n K o.left a c.args.machine.now m) (sym c.count_of.ensures) (last_under R stacked w o))
           (subst (SaysApplied P c.args.machine.now.text.now) (sym c.applied_last-applied.ensures) (says_last P c.args.machine.now.text.now f c.args.held _ speaks R.data_held)))
     ]
-
-pub returns-in_err-push-in-Err-clause-law : goal.returns-in_err-push-in-Err-clause-law
-returns-in_err-push-in-Err-clause-law c = λ P Z m₀ m s k K env a p es t top others M R stacked w here h room speaks.
-    absurd (omega (arith, c.in_err-push-in-Err.ensures.fits))
 
 pub returns-in_ok-push-in-Err-clause-law : goal.returns-in_ok-push-in-Err-clause-law
 returns-in_ok-push-in-Err-clause-law c = λ P Z m₀ m s k K env a p es t top others M R stacked w here h room speaks.

@@ -1,9 +1,8 @@
-use Rattle.std.proofs.Common.{◌∷◌, Some, ap, sym, ◌∙◌, subst}
+use Rattle.std.proofs.Common.{◌∷◌, ap, ◌∙◌, subst}
 use Rattle.std.specs.Result.{result_ok}
-use Rattle.data.proofs.Moves.{drop_held, plain_out}
-use Rattle.data.specs.Standing.{plain_unit}
+use Rattle.data.proofs.Moves.{drop_held}
 use Rattle.data.specs.Taking.{Out}
-use Rattle.data.specs.Trees.{more, size}
+use Rattle.data.specs.Trees.{more}
 use Rattle.machine.specs.Holding.{value_in}
 use Rattle.handing.proofs.leaving.drop_slot.Goals as goal
 
@@ -11,9 +10,3 @@ pub returns-in-Some : goal.returns-in-Some
 returns-in-Some g c = λ m₀ vs t ts o.
     let h = drop_held c.drop_value.ensures (subst (λ s. Out (g.S.CellStore.cells c.args.store.now) (value_in s ∷ vs) (more t ts) m₀) c.in-Some.is o) in
     (c.ok.ensures.value ∙ ap result_ok h.0, h.1)
-
-pub returns-in-None : goal.returns-in-None
-returns-in-None g c = λ m₀ vs t ts o.
-    let p = plain_out plain_unit (subst (λ s. Out (g.S.CellStore.cells c.args.store.now) (value_in s ∷ vs) (more t ts) m₀) c.in-None.is o) in
-    let is = p.0 in
-    (ap Some (ap size (sym is)), p.1)
