@@ -71,14 +71,6 @@ pub less_append : (ms ns : List ℕ) (cs : Cells) → less (ms ++ ns) cs ≡ les
 less_append [] ns cs = refl
 less_append (m ∷ ms) ns cs = ap (λ z. set z m None) (less_append ms ns cs)
 
--- what is free in a store that has all that was live before was free before
-pub free_before : (old cs : Cells) (i : ℕ) → Within old cs → at cs i ≡ None → at old i ≡ None
-free_before old cs i w h = by_cases (at old i) refl
-  where
-    by_cases : (c : Option CellRecord) → at old i ≡ c → c ≡ None
-    by_cases None e = refl
-    by_cases (Some r) e = absurd (some_none (w i r e) h)
-
 pub less_other_cell : (ns : List ℕ) (cs : Cells) (c : ℕ) (x : Option CellRecord) → (Among c ns → ⊥) → less ns (set cs c x) ≡ set (less ns cs) c x
 less_other_cell [] cs c x d = refl
 less_other_cell (n ∷ ns) cs c x d =

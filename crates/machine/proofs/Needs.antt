@@ -3,11 +3,11 @@ use Rattle.std.proofs.Common.{◌≡◌, ℕ, ◌+◌, ◌<◌, ◌≤◌, ◌�
 use Rattle.std.proofs.lemmas.Bool.{lt-ltb, le-ltb, le-leb, lt-leb}
 use Rattle.data.specs.Trees.{Tree, built, Trees, size}
 use Rattle.grammar.specs.Trees.{Expr}
-use Rattle.program.specs.Programs.{Program, Name, global_of}
+use Rattle.program.specs.Programs.{Program, Name}
 use Rattle.rules.specs.declared.fault.FaultKind.{FaultKind}
 use Rattle.rules.specs.declared.fault.FaultKind.TheVariants.{StackFull, TooFewCells}
 use Rattle.rules.specs.States.{Environment, Frame, Account, State, st, enter, finished, takes, environment_size, saved_size, saved_count}
-use Rattle.rules.specs.Steps.{Outcome, goes, fails, stuck, Sizes, needs, got, consumed, absent, took, waits, finish, has_cells, has_entries, build, enter_name, enter_global, dup_entered}
+use Rattle.rules.specs.Steps.{Outcome, goes, fails, stuck, Sizes, needs, got, consumed, took, waits, finish, has_cells, has_entries, build, enter_name, dup_entered}
 
 -- with what is needed a step is what it is
 pub met : (kind : FaultKind) (b : Bool) (o : Outcome) → b ≡ true → needs kind b o ≡ o
@@ -50,10 +50,6 @@ module _ (P : Program) (Z : Sizes) (K : List Frame) (env : Environment) (a : Acc
   pub name_consumed : (p : ℕ) (w : Name) → enter_name P Z p w K env a consumed ≡ stuck
   unfolding enter_name
   name_consumed p w = refl
-
-  pub name_absent : (p : ℕ) (w : Name) → enter_name P Z p w K env a absent ≡ enter_global P Z p K env a (global_of P w)
-  unfolding enter_name
-  name_absent p w = refl
 
   pub dup_fits : (t : Tree) (after : Environment) → size t + (saved_size K + environment_size env) ≤ Z.cells → dup_entered P Z K env a (got t after) ≡ goes [] (st K env (finished t) (takes (size t) a))
   unfolding dup_entered has_cells finish

@@ -1,16 +1,14 @@
 -- The places of what waits and of what comes next.
-use Rattle.std.proofs.Common.{◌≡◌, ℕ, List, ◌∷◌, Some, None, sym, ap, ◌∙◌}
+use Rattle.std.proofs.Common.{◌≡◌, ℕ, List, ◌∷◌, Some, sym, ap, ◌∙◌}
 use Rattle.grammar.specs.Trees.{Expr, place_of}
 use Rattle.machine.specs.Waiting.{Waits, waits_test, waits_arm, waits_part, waits_binding, waits_leaving, waits_tested, waits_head, waits_argument, waits_field, waits_body, waits_main}
 use Rattle.machine.specs.declared.frame.Frame.{Frame as Waiting}
-use Rattle.program.specs.Programs.{Program, place_meant}
+use Rattle.program.specs.Programs.{Program}
 use Rattle.program.specs.Scopes.{Scope}
 use Rattle.program.specs.Standing as stands
 use Rattle.program.specs.Standing.{at, Stands, Lays}
 use Rattle.program.specs.declared.code.Code.{Code}
 use Rattle.program.specs.declared.code.Op.{Op}
-use Rattle.program.specs.declared.compiled.Compiled.{Compiled}
-use Rattle.rules.specs.Runs.{main_of}
 use Rattle.rules.specs.States.{Frame}
 use Rattle.rules.specs.Steps.{place_of_frame}
 use Rattle.run.specs.Places.{node_meant}
@@ -29,23 +27,6 @@ module _ {P : Program} {cs : List Code} where
   waiting_place i (waits_field {i = k} p o n r w) e = let same : k ≡ i = cc in ap (λ i. (at P cs i).place) (sym same) ∙ p
   waiting_place i (waits_body {i = k} p n w) e = let same : k ≡ i = cc in ap (λ i. (at P cs i).place) (sym same) ∙ p
   waiting_place i (waits_main m p w) e = absurd (cc)
-
-  main_place_at : {G : Scope} {f : Frame} {K : List Frame} {frame : Waiting} {fs : List Waiting} → Waits P cs G (f ∷ K) (frame ∷ fs) → node_meant frame ≡ None → place_meant (main_of P) ≡ place_of_frame f
-  main_place_at (waits_test p x y w) e = absurd (cc)
-  main_place_at (waits_arm p w) e = absurd (cc)
-  main_place_at (waits_part p r w) e = absurd (cc)
-  main_place_at (waits_binding m p n b y w) e = absurd (cc)
-  main_place_at (waits_leaving p w) e = absurd (cc)
-  main_place_at (waits_tested p b w) e = absurd (cc)
-  main_place_at (waits_head p r w) e = absurd (cc)
-  main_place_at (waits_argument p h r w) e = absurd (cc)
-  main_place_at (waits_field p o n r w) e = absurd (cc)
-  main_place_at (waits_body p n w) e = absurd (cc)
-  main_place_at (waits_main m p w) e = ap place_meant m ∙ sym p
-
-  -- main's call has the place of main
-  pub place_of_main : {l : Compiled} {G : Scope} {f : Frame} {K : List Frame} {frame : Waiting} {fs : List Waiting} → Lays l P → Waits P cs G (f ∷ K) (frame ∷ fs) → node_meant frame ≡ None → l.main_place ≡ place_of_frame f
-  place_of_main lays w e = lays.main_place_at ∙ main_place_at w e
 
   pub standing_place : {G : Scope} {o : Op} {e : Expr} {i : ℕ} → Stands P cs G o e i → (at P cs i).place ≡ place_of e
   standing_place (stands.integer p) = p

@@ -18,11 +18,10 @@ use Rattle.program.specs.Standing.{at, Stands}
 use Rattle.program.specs.declared.code.Code.{Code}
 use Rattle.program.specs.declared.code.Op.{Op}
 use Rattle.program.specs.declared.code.Op.TheVariants as op
-use Rattle.rules.specs.Runs.{main_of}
 use Rattle.rules.specs.States.{opened, enter, finished, over, State, st}
-use Rattle.rules.specs.Steps.{goes, Sizes, step}
-use Rattle.stepping.proofs.Speech.{Leads, Literals, step_leads}
-use Rattle.stepping.specs.Speaking.{SymbolsIn, Spoken}
+use Rattle.rules.specs.Steps.{Sizes}
+use Rattle.stepping.proofs.Speech.{Literals}
+use Rattle.stepping.specs.Speaking.{SymbolsIn}
 
 -- a symbol that is handed over
 pub speaks : (P : Program) (text : List ℕ) (t : Tree) → SymbolsIn (Quoted text P) t → Speaks P text t
@@ -45,7 +44,3 @@ literals (st K env opened a) M = tt
 literals {P} {r = r} (st K env (enter x) a) (mirrors R N) = λ p w e. quoted_next R.ready.quoted (subst (λ x. Next P r.script.now.code (names env) (enter x) r.control) e N)
 literals (st K env (finished v) a) M = tt
 literals (st K env over a) M = tt
-
--- what a step leads to is spoken
-pub spoken_on : {P : Program} {Z : Sizes} {m₀ m : Cells} {r : Machine} (s : State) {bytes : List ℕ} {s' : State} → Mirrors P Z m₀ s r m → Spoken P r.text.now s → step P Z (main_of P) s ≡ goes bytes s' → Spoken P r.text.now s'
-spoken_on {P} {Z} {r = r} s M h e = subst (Leads (Quoted r.text.now P)) e (step_leads (Quoted r.text.now P) P Z (main_of P) s (literals s M) h)
