@@ -1,18 +1,15 @@
 -- A list of cells given back, from its first cell on.
-use Rattle.std.proofs.Common.{◌≡◌, ℕ, List, set, Some, None, sym, refl, ap, ◌∙◌, subst}
+use Rattle.std.proofs.Common.{◌≡◌, ℕ, List, set, Some, None, sym, ap, ◌∙◌, subst}
 use Rattle.cells.specs.declared.records.CellRecord.{CellRecord}
 use Rattle.cells.specs.Meaning.{Cells, at}
 use Rattle.data.specs.Standing.{Among, less}
 use Rattle.data.specs.Steps.{Links}
-use Rattle.data.proofs.Stores.{some_none, less_clear}
-use Rattle.data.proofs.Links.{links_done, links_first, links_other, links_once}
+use Rattle.data.proofs.Stores.{less_clear}
+use Rattle.data.proofs.Links.{links_first, links_other, links_once}
 
 -- those before next are given back
 pub record Giving (start current : Cells) (head next : ℕ) : Type 0 where
   pub rest : (ns : List ℕ) → Links start head ns → (ms : List ℕ) × Links current next ms × (less ms current ≡ less ns start)
-
-pub giving_start : (cs : Cells) (head : ℕ) → Giving cs cs head head
-giving_start cs head = record { rest = λ ns k. (ns, k, refl) }
 
 pub giving_turn : {start current exit : Cells} {head next : ℕ} (r : CellRecord) → (next ≡ 65535 → ⊥) → at current next ≡ Some r → exit ≡ set current next None → Giving start current head next → Giving start exit head r.spare
 giving_turn {start} {current} {exit} {head} {next} r open_at here e g = record {
@@ -25,10 +22,3 @@ giving_turn {start} {current} {exit} {head} {next} r open_at here e g = record {
       let left : less f.others exit ≡ less ns start = ap (less f.others) e ∙ (less_clear f.others current next ∙ (ap (λ ms. less ms current) (sym f.shape) ∙ t.2)) in
       (f.others, subst (λ z. Links z r.spare f.others) (sym e) (links_other next None apart behind), left);
 }
-
-pub giving_end : {start current : Cells} {head next : ℕ} → next ≡ 65535 → Giving start current head next → (ns : List ℕ) → Links start head ns → current ≡ less ns start
-giving_end {current = current} e g ns k = let t = g.rest ns k in ap (λ ms. less ms current) (sym (links_done e t.1)) ∙ t.2
-
--- a list is not lost
-pub giving_lost : {start current : Cells} {head next : ℕ} → (next ≡ 65535 → ⊥) → at current next ≡ None → Giving start current head next → (ns : List ℕ) → Links start head ns → ⊥
-giving_lost open_at z g ns k = let t = g.rest ns k in some_none (links_first open_at t.1).is z

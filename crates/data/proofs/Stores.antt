@@ -1,5 +1,5 @@
 -- Laws of a store's cells that walks need.
-use Rattle.std.proofs.Common.{◌≡◌, ℕ, zero, suc, ◌<◌, ◌≤◌, ◌⊎◌, List, [], ◌∷◌, ◌++◌, length, set, is_some, Some, None, Option, sym, refl, ap, ◌∙◌, subst, inl, inr, ⊎_elim, arith}
+use Rattle.std.proofs.Common.{◌≡◌, ℕ, suc, ◌<◌, ◌⊎◌, List, [], ◌∷◌, ◌++◌, length, set, is_some, Some, None, Option, sym, refl, ap, ◌∙◌, subst, inl, inr, ⊎_elim, arith}
 use Rattle.std.proofs.lemmas.Bool.{true≢false, cases_eq}
 use Rattle.std.proofs.lemmas.List.{set-get_or, set_comm}
 use Rattle.cells.specs.declared.records.CellRecord.{CellRecord}
@@ -15,12 +15,6 @@ some_none a b = true≢false (ap is_some (sym a ∙ b))
 
 pub within : (cs : Cells) (i : ℕ) (r : CellRecord) → at cs i ≡ Some r → i < length cs
 within cs i r e = live_within cs i (ap is_some e)
-
--- past the capacity nothing is live
-pub at_past : (cs : Cells) (i : ℕ) → length cs ≤ i → at cs i ≡ None
-at_past [] i h = refl
-at_past (x ∷ xs) zero h = absurd (omega arith)
-at_past (x ∷ xs) (suc i) h = at_past xs i (omega arith)
 
 -- where cell j is cleared, a cell is free or as it was
 pub cleared_or_same : (cs : Cells) (i j : ℕ) → (at (set cs j None) i ≡ None) ⊎ (at (set cs j None) i ≡ at cs i)

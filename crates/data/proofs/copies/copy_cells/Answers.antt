@@ -1,8 +1,5 @@
 use Rattle.data.proofs.Copying.{copies_plain, not_cell}
 use Rattle.data.proofs.copies.copy_cells.Goals as goal
 
-pub returns-in-Cell : goal.returns-in-Cell
-returns-in-Cell g c = rw c.in-Cell.is c.copy_data.ensures
-
 pub returns-in_default : goal.returns-in_default
 returns-in_default g c = copies_plain (not_cell c.args.value c.in_default.not-Cell)
