@@ -18,5 +18,6 @@ pub use declarations::Declarations;
 pub use define_types::DefineTypes;
 pub use global::Global;
 pub use refusing::refused;
+pub use tables::definitions;
 pub use variant::Variant;
 pub use whole::Globals;

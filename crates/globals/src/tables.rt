@@ -13,7 +13,7 @@ pub(crate) struct Parsed<'a> {
 }
 
 // The definitions in text order.
-pub(crate) fn definitions(tables: &Tables) -> &[Definition]
+pub fn definitions(tables: &Tables) -> &[Definition]
     ensures items { result.now ≡ take (min tables.now.counts.definitions 832) tables.now.definitions }
     ensures many { length result.now ≡ min tables.now.counts.definitions 832 }
 {

@@ -46,8 +46,8 @@ impl Globals {
         &self.rows
     }
 
-    // The type of the define with a number.
-    fn define_type(&self, j: usize) -> ValueType
+    // The type that the define with a number is annotated with.
+    pub fn define_type(&self, j: usize) -> ValueType
         ensures { result ≡ slice_index_or self.now.types.types j value.Unit }
     {
         self.types.types.get(j).copied().unwrap_or(ValueType::Unit)

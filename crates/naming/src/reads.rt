@@ -1,5 +1,5 @@
 // Nodes, the types of vals, and what a node does.
-ghost use Rattle.std.specs.Prelude.{◌≡◌, ℕ, ◌+◌, ◌<◌, max, slice_set};
+ghost use Rattle.std.specs.Prelude.{◌≡◌, ℕ, ◌+◌, max, min, slice_set};
 ghost use Rattle.std.specs.List.{slice_get};
 ghost use Rattle.layout.specs.Decoding.{node_found};
 ghost use Rattle.program.specs.Compiling.{code};
@@ -22,7 +22,7 @@ pub fn node_at(nodes: &[Node], i: usize) -> Node
 
 // The number of the node after the last part of the one with a number.
 pub fn after(nodes: &[Node], i: usize) -> usize
-    ensures value { i < 65536 → result ≡ max (node_found nodes.now i).past (i + 1) }
+    ensures value { result ≡ max (node_found nodes.now i).past (min (i + 1) 18446744073709551615) }
 {
     (node_at(nodes, i).past as usize).max(i.saturating_add(1))
 }

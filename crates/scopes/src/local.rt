@@ -10,9 +10,11 @@ pub struct Local {
     pub height: usize,
 }
 
-// What is read where there is no local.
-pub(crate) const NO_LOCAL: Local = Local {
-    name: Word::UNUSED,
-    kind: ValueType::Unit,
-    height: 0,
-};
+impl Local {
+    // what is read where there is no local
+    pub const NONE: Local = Local {
+        name: Word::UNUSED,
+        kind: ValueType::Unit,
+        height: 0,
+    };
+}

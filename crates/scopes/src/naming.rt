@@ -2,7 +2,7 @@
 ghost use Rattle.std.specs.Prelude.{◌≡◌, ℕ, ◌+◌, ◌<◌, ◌≤◌, length, slice_index_or};
 ghost use Rattle.scopes.specs.Locals.{no_local, FindsLocal, Pushed};
 
-use super::local::{Local, NO_LOCAL};
+use super::local::Local;
 use super::scope::Scope;
 use names::part;
 use stack::{Full, Stack};
@@ -11,7 +11,7 @@ use stack::{Full, Stack};
 pub fn local_at(locals: &[Local], k: usize) -> Local
     ensures { result ≡ slice_index_or locals.now k no_local }
 {
-    locals.get(k).copied().unwrap_or(NO_LOCAL)
+    locals.get(k).copied().unwrap_or(Local::NONE)
 }
 
 // The number of the newest local with a name.
