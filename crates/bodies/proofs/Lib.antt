@@ -1,0 +1,13 @@
+pub mod PutLaws
+pub mod SizeLaws
+pub mod DeskLaws
+pub mod JudgeLaws
+pub mod NodeLaws
+pub mod IfLaws
+pub mod RowLaws
+pub mod LetLaws
+pub mod CaseLaws
+pub mod TypeLaws
+pub mod ApplyLaws
+pub mod HeadLaws
+pub mod LiteralLaws
