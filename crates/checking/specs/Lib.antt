@@ -1,0 +1,4 @@
+pub mod Defining
+pub mod Drafting
+pub mod Whole
+pub mod Check
