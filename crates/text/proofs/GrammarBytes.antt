@@ -204,9 +204,6 @@ run_separates false (b ∷ s) = go (class_of b) refl (view b) (run_separates (co
     go class.Word e v rest = shortest b s (rw e refl)
 
 -- Words.
-clash : ◌≡◌ {A = ℕ} 0 1 → ⊥
-clash z = omega arith
-
 class_ends : (b : ℕ) → in_word (class_of b) ≡ false → Ending b
 class_ends b e = go (class_of b) (view b) e
   where
@@ -219,10 +216,10 @@ class_ends b e = go (class_of b) (view b) e
     go (class.Close Round) (is_close Round p) e = inr (inl (inr (inl p)))
     go (class.Close Square) (is_close Square p) e = inr (inl (inr (inr (inr p))))
     go class.Quote (is_quote p) e = inr (inr (inr p))
-    go class.Word (is_word n) e = absurd (clash cc)
+    go class.Word (is_word n) e = absurd (cc)
 
 not_ending : (b : ℕ) → in_word (class_of b) ≡ true → Ending b → ⊥
-not_ending b e end = let f = ending_class b end in clash (let z : true ≡ false = sym e ∙ f in cc)
+not_ending b e end = let f = ending_class b end in let z : true ≡ false = sym e ∙ f in cc
 
 -- the run of word bytes at a text's front is a word, if there is one
 pub run_word : (s : List ℕ) → (word_run s ≡ 0) ⊎ Word (take (word_run s) s)

@@ -18,9 +18,6 @@ use Rattle.text.proofs.GrammarBytes.{run_separates, separators_run, separator_wi
 use Rattle.text.proofs.GrammarTokens.{front_spelt, spelt_front, token_no_gap}
 use Rattle.text.proofs.TokenLaws.{over_separators, run_whole, continued, lead, none_left}
 
-clash : ◌≡◌ {A = ℕ} 0 1 → ⊥
-clash z = omega arith
-
 -- the tokens, and then the end
 abbrev pub listed : List Lexeme → Lexed
 listed [] = done
@@ -42,7 +39,7 @@ closed_gap : (s : List ℕ) (k : TokenKind) (n : ℕ) → text_front (drop (sepa
 closed_gap s k n e =
     let g = run_separates false s in
     elim g.stops [
-      | inl z ↦ absurd (clash (let f = drop_all (separator_run false s) s (omega (arith, z)) in let h : Ok None ≡ token k n = sym (ap text_front f) ∙ e in cc))
+      | inl z ↦ absurd (let f = drop_all (separator_run false s) s (omega (arith, z)) in let h : Ok None ≡ token k n = sym (ap text_front f) ∙ e in cc)
       | inr p ↦ subst (λ o. Separator false o (take (separator_run false s) s)) p g.gap
     ]
 
@@ -52,14 +49,14 @@ cuts [] i s e = go (text_front (drop (separator_run false s) s)) refl (sym (behi
   where
     go : (f : Result (Option Front) Refusal) → text_front (drop (separator_run false s) s) ≡ f → continued (i + separator_run false s) (drop (separator_run false s) s) f ≡ done → Cut i s []
     go (Ok None) p h = let g = all_gap s (none_left (drop (separator_run false s) s) (run_whole false s) p) in last g.0 g.1
-    go (Err r) p h = absurd (clash cc)
-    go (Ok (Some f)) p h = absurd (clash cc)
+    go (Err r) p h = absurd (cc)
+    go (Ok (Some f)) p h = absurd (cc)
 cuts (t ∷ ts) i s e = go (text_front (drop (separator_run false s) s)) refl (sym (behind i s) ∙ e) (cuts ts)
   where
     go : (f : Result (Option Front) Refusal) → text_front (drop (separator_run false s) s) ≡ f → continued (i + separator_run false s) (drop (separator_run false s) s) f ≡ also t (listed ts)
         → ((j : ℕ) (r : List ℕ) → lexed 0 j r ≡ listed ts → Cut j r ts) → Cut i s (t ∷ ts)
-    go (Ok None) p h more = absurd (clash cc)
-    go (Err r) p h more = absurd (clash cc)
+    go (Ok None) p h more = absurd (cc)
+    go (Err r) p h more = absurd (cc)
     go (Ok (Some f)) p h more =
         let k = f.kind in
         let n = f.size in
@@ -102,8 +99,8 @@ lists {i} {s} (next {ts = ts} gap rest t sep spelt whole e place more) =
 -- Brackets.
 same_shape_law : (a b : Bracket) → same_shape a b ≡ true → a ≡ b
 same_shape_law Round Round e = refl
-same_shape_law Round Square e = absurd (clash cc)
-same_shape_law Square Round e = absurd (clash cc)
+same_shape_law Round Square e = absurd (cc)
+same_shape_law Square Round e = absurd (cc)
 same_shape_law Square Square e = refl
 
 shape_same : (a : Bracket) → same_shape a a ≡ true
@@ -121,13 +118,13 @@ pairs_one t ts opened after e p = go t.kind refl opened e
       where
         shaped : (v : Bool) → ltb (length o) 64 ≡ v → ◌≡◌ {A = Result (List Bracket) Refusal} (cond v (Ok (r ∷ o)) (Err refusal.Limit)) (Ok after) → Paired o (t ∷ ts)
         shaped true b h = let z : after ≡ r ∷ o = cc in opens t r q (ltb-true (length o) 64 b) (subst (λ o. Paired o ts) z p)
-        shaped false b h = absurd (clash cc)
-    go (kind.Close r) q [] h = absurd (clash cc)
+        shaped false b h = absurd (cc)
+    go (kind.Close r) q [] h = absurd (cc)
     go (kind.Close r) q (a ∷ o) h = shaped (same_shape a r) refl h
       where
         shaped : (v : Bool) → same_shape a r ≡ v → ◌≡◌ {A = Result (List Bracket) Refusal} (cond v (Ok o) (Err refusal.Bracket)) (Ok after) → Paired (a ∷ o) (t ∷ ts)
         shaped true b h = let z : after ≡ o = cc in subst (λ a. Paired (a ∷ o) (t ∷ ts)) (sym (same_shape_law a r b)) (closes t r q (subst (λ o. Paired o ts) z p))
-        shaped false b h = absurd (clash cc)
+        shaped false b h = absurd (cc)
     go kind.Symbol q o h = aside (rw q tt) h
     go (kind.Integer z) q o h = aside (rw q tt) h
     go (kind.Keyword j) q o h = aside (rw q tt) h
@@ -135,18 +132,18 @@ pairs_one t ts opened after e p = go t.kind refl opened e
 
 preceded : (t : Lexeme) (r : Result (List Lexeme) Refused) (ts : List Lexeme) → precede t r ≡ Ok ts → (us : List Lexeme) × (r ≡ Ok us) × (t ∷ us ≡ ts)
 preceded t (Ok us) ts e = (us, refl, cc)
-preceded t (Err r) ts e = absurd (clash cc)
+preceded t (Err r) ts e = absurd (cc)
 
 pairs : (end : ℕ) (opened : List Bracket) (l : Lexed) (ts : List Lexeme) → balanced end opened l ≡ Ok ts → (l ≡ listed ts) × Paired opened ts
 pairs end [] done ts e = let z : [] ≡ ts = cc in subst (λ ts. (done ≡ listed ts) × Paired [] ts) z (refl, closed)
-pairs end (a ∷ o) done ts e = absurd (clash cc)
-pairs end o (fault f i) ts e = absurd (clash cc)
+pairs end (a ∷ o) done ts e = absurd (cc)
+pairs end o (fault f i) ts e = absurd (cc)
 pairs end o (also t l) ts e = go (nesting t.kind o) refl e (λ after. pairs end after l)
   where
     go : (v : Result (List Bracket) Refusal) → nesting t.kind o ≡ v
         → ◌≡◌ {A = Result (List Lexeme) Refused} (elim v [ Ok after ↦ precede t (balanced end after l) | Err f ↦ Err (refused_at f t.place) ]) (Ok ts)
         → ((after : List Bracket) (us : List Lexeme) → balanced end after l ≡ Ok us → (l ≡ listed us) × Paired after us) → (also t l ≡ listed ts) × Paired o ts
-    go (Err f) q h more = absurd (clash cc)
+    go (Err f) q h more = absurd (cc)
     go (Ok after) q h more =
         let u = preceded t (balanced end after l) ts h in
         let m = more after u.0 u.1 in
@@ -177,7 +174,7 @@ scan_tokens text ts e = go (leb (length text) 65535) refl e
     go true b h =
         let p = pairs (length text) [] (lexed_from text 0) ts h in
         record { short = leb-true (length text) 65535 b; cut = cuts ts 0 text p.0; paired = p.1 }
-    go false b h = absurd (clash cc)
+    go false b h = absurd (cc)
 
 pub tokens_scan : (text : List ℕ) (ts : List Lexeme) → Tokens text ts → scan text ≡ Ok ts
 tokens_scan text ts t = rw (le-leb (length text) 65535 t.short) (ap (balanced (length text) []) (lists t.cut) ∙ balances (length text) t.paired)
@@ -187,4 +184,4 @@ scan_lawful text = go (scan text) refl
   where
     go : (r : Result (List Lexeme) Refused) → scan text ≡ r → Lawful text (counted r)
     go (Ok ts) e = (ts, scan_tokens text ts e, refl, λ us t. let f = tokens_scan text us t in cc)
-    go (Err r) e = λ ts t. clash (let f = tokens_scan text ts t in cc)
+    go (Err r) e = λ ts t. let f = tokens_scan text ts t in cc

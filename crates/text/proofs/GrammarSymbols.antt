@@ -1,5 +1,5 @@
 -- What stands between a symbol's quotes, in the grammar's words.
-use Rattle.std.proofs.Common.{◌≡◌, ℕ, zero, suc, Bool, true, false, ◌⊎◌, List, [], ◌∷◌, ◌++◌, length, take, drop, Some, None, Option, refl, ap, subst, inl, inr, arith, ne_eqb}
+use Rattle.std.proofs.Common.{◌≡◌, ℕ, zero, suc, Bool, true, false, ◌⊎◌, List, [], ◌∷◌, ◌++◌, length, take, drop, Some, None, Option, refl, ap, subst, inl, inr, ne_eqb}
 use Rattle.std.proofs.lemmas.Bool.Decides.{eqb_tells}
 use Rattle.std.specs.Option.{option_map}
 use Rattle.text.specs.declared.bytes.Inside.{Inside}
@@ -7,11 +7,8 @@ use Rattle.text.specs.declared.bytes.Inside.TheVariants.{Plain, Escape, Closed, 
 use Rattle.text.specs.Bytes.{after_backslash, part_inside, closing, closing_after}
 use Rattle.text.specs.Grammar.{Quoted, none, plain, escape}
 
-clash : ◌≡◌ {A = ℕ} 0 1 → ⊥
-clash z = omega arith
-
 mapped_some : (o : Option ℕ) (n : ℕ) → option_map suc o ≡ Some n → (m : ℕ) × (o ≡ Some m) × (suc m ≡ n)
-mapped_some None n e = absurd (clash cc)
+mapped_some None n e = absurd (cc)
 mapped_some (Some m) n e = (m, refl, cc)
 
 -- what comes next, with what the first bytes then are
@@ -56,7 +53,7 @@ further b s m x y (found q d) = found (plain x y q) d
 -- by what comes next, from where the closing quote stands in the rest
 onward : (b : ℕ) (s : List ℕ) (n : ℕ) (k : Inside) → View (b ∷ s) k → part_inside (b ∷ s) ≡ k → closing_after false (b ∷ s) ≡ Some n
     → ((m : ℕ) → closing_after false s ≡ Some m → Found false s m) → ((m : ℕ) → closing_after true s ≡ Some m → Found true s m) → Found false (b ∷ s) n
-onward b s n Broken v p e f g = absurd (clash (let h : None ≡ Some n = rw (p, closing_after) at e in cc))
+onward b s n Broken v p e f g = absurd (let h : None ≡ Some n = rw (p, closing_after) at e in cc)
 onward b s n Closed (is_quote q) p e f g =
     let h : Some 0 ≡ Some n = rw (p, closing_after) at e in
     let z : 0 ≡ n = cc in
@@ -71,7 +68,7 @@ onward b s n Escape v p e f g =
     subst (Found false (b ∷ s)) m.2 (escaped b m.0 s v (g m.0 m.1))
 
 closes : (skip : Bool) (s : List ℕ) (n : ℕ) → closing_after skip s ≡ Some n → Found skip s n
-closes skip [] n e = absurd (clash cc)
+closes skip [] n e = absurd (cc)
 closes true (c ∷ s) n e =
     let m = mapped_some (closing_after false s) n e in
     subst (Found true (c ∷ s)) m.2 (behind (closes false s m.0 m.1))

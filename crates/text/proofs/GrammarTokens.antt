@@ -20,15 +20,12 @@ use Rattle.text.proofs.GrammarBytes.{View, is_open, is_close, is_quote, view, wo
 use Rattle.text.proofs.GrammarSymbols.{closing_quoted, quoted_closing}
 use Rattle.text.proofs.TokenLaws.{separator_begins_none, same_token}
 
-clash : ◌≡◌ {A = ℕ} 0 1 → ⊥
-clash z = omega arith
-
 -- a word's kind is its spelling
 named : (w rest : List ℕ) (k : TokenKind) → Word w → EndsWord rest → integer_value w ≡ Ok None → (o : Option Keyword) → keyword_spelt w ≡ o → name_or o (length w) ≡ Ok k → Spelt k w × Whole k rest
 named w rest k word ends i (Some j) p e = let q : kind.Keyword j ≡ k = cc in subst (λ k. Spelt k w × Whole k rest) q ((word, i, p), ends)
 named w rest k word ends i None p e = elim (leb_tells (length w) 63) [
   | inl t ↦ (let h : Ok kind.Name ≡ Ok k = rw t.0 at e in let q : kind.Name ≡ k = cc in subst (λ k. Spelt k w × Whole k rest) q ((word, i, p, t.1), ends))
-  | inr t ↦ absurd (clash (let h : Err refusal.Limit ≡ Ok k = rw t.0 at e in cc))
+  | inr t ↦ absurd (let h : Err refusal.Limit ≡ Ok k = rw t.0 at e in cc)
 ]
 
 kind_spelt : (w rest : List ℕ) (k : TokenKind) → Word w → EndsWord rest → kind_of_word w ≡ Ok k → Spelt k w × Whole k rest
@@ -36,13 +33,13 @@ kind_spelt w rest k word ends e = go (integer_value w) refl e
   where
     go : (i : Result (Option ℤ) Refusal) → integer_value w ≡ i → integer_or i w ≡ Ok k → Spelt k w × Whole k rest
     go (Ok (Some z)) p h = let q : kind.Integer z ≡ k = cc in subst (λ k. Spelt k w × Whole k rest) q ((word, p), ends)
-    go (Err f) p h = absurd (clash cc)
+    go (Err f) p h = absurd (cc)
     go (Ok None) p h = named w rest k word ends p (keyword_spelt w) refl h
 
 -- a symbol's bytes, from the place of its closing quote
 quoted_bytes : (s : List ℕ) (m : ℕ) → drop m s ≡ 39 ∷ drop (suc m) s → take (m + 1) s ≡ take m s ++ 39 ∷ []
-quoted_bytes [] zero e = absurd (clash (let z = ap length e in omega arith))
-quoted_bytes [] (suc m) e = absurd (clash (let z = ap length e in omega arith))
+quoted_bytes [] zero e = absurd (let z = ap length e in omega arith)
+quoted_bytes [] (suc m) e = absurd (let z = ap length e in omega arith)
 quoted_bytes (b ∷ s) zero e = let q : b ≡ 39 = cc in ap (λ x. x ∷ []) q
 quoted_bytes (b ∷ s) (suc m) e =
     let n : suc m + 1 ≡ suc (m + 1) = omega arith in
@@ -55,9 +52,9 @@ symbol_spelt : (b : ℕ) (s : List ℕ) (k : TokenKind) (n : ℕ) → b ≡ 39 �
 symbol_spelt b s k n p e = go (closing s) refl e
   where
     go : (o : Option ℕ) → closing s ≡ o → begun (closed_symbol o) ≡ token k n → Spelt k (take n (b ∷ s)) × Whole k (drop n (b ∷ s)) × (n ≤ length (b ∷ s))
-    go None q h = absurd (clash cc)
+    go None q h = absurd (cc)
     go (Some m) q h = elim (leb_tells m 255) [
-      | inr t ↦ absurd (clash (let f : Err refusal.Limit ≡ token k n = rw t.0 at h in cc))
+      | inr t ↦ absurd (let f : Err refusal.Limit ≡ token k n = rw t.0 at h in cc)
       | inl t ↦
           (let f : token kind.Symbol (m + 2) ≡ token k n = rw t.0 at h in
           let ek = (same_token f).0 in
@@ -76,7 +73,7 @@ word_spelt : (s : List ℕ) (k : TokenKind) (n : ℕ) → 0 < word_run s → beg
 word_spelt s k n some e = go (kind_of_word (take (word_run s) s)) refl e
   where
     go : (r : Result TokenKind Refusal) → kind_of_word (take (word_run s) s) ≡ r → begun (judged (word_run s) r) ≡ token k n → Spelt k (take n s) × Whole k (drop n s) × (n ≤ length s)
-    go (Err f) p h = absurd (clash cc)
+    go (Err f) p h = absurd (cc)
     go (Ok j) p h =
         let ek = (same_token h).0 in
         let en = (same_token h).1 in
@@ -97,13 +94,13 @@ bracket_spelt b s j k n e p w =
 
 -- what the definitions call a token is spelt as one, whole
 pub front_spelt : (s : List ℕ) (k : TokenKind) (n : ℕ) → text_front s ≡ token k n → Spelt k (take n s) × Whole k (drop n s) × (n ≤ length s)
-front_spelt [] k n e = absurd (clash cc)
+front_spelt [] k n e = absurd (cc)
 front_spelt (b ∷ s) k n e = go (class_of b) refl (view b) e
   where
     go : (c : Class) → class_of b ≡ c → View b c → front_from c (b ∷ s) s ≡ token k n → Spelt k (take n (b ∷ s)) × Whole k (drop n (b ∷ s)) × (n ≤ length (b ∷ s))
-    go class.Blank p v h = absurd (clash cc)
-    go class.Newline p v h = absurd (clash cc)
-    go class.Comment p v h = absurd (clash cc)
+    go class.Blank p v h = absurd (cc)
+    go class.Newline p v h = absurd (cc)
+    go class.Comment p v h = absurd (cc)
     go (class.Open Round) p (is_open Round q) h = bracket_spelt b s (kind.Open Round) k n h (ap (λ x. x ∷ []) q) tt
     go (class.Open Square) p (is_open Square q) h = bracket_spelt b s (kind.Open Square) k n h (ap (λ x. x ∷ []) q) tt
     go (class.Close Round) p (is_close Round q) h = bracket_spelt b s (kind.Close Round) k n h (ap (λ x. x ∷ []) q) tt
@@ -147,5 +144,5 @@ token_no_gap [] k n e = refl
 token_no_gap (b ∷ s) k n e = go (separates (class_of b) false) refl
   where
     go : (v : Bool) → separates (class_of b) false ≡ v → separator_run false (b ∷ s) ≡ 0
-    go true p = absurd (clash (let f = separator_begins_none (class_of b) (b ∷ s) s p in cc))
+    go true p = absurd (let f = separator_begins_none (class_of b) (b ∷ s) s p in cc)
     go false p = rw (p, separator_run) refl

@@ -13,9 +13,6 @@ use Rattle.text.specs.Words.{kind_of_word}
 use Rattle.text.specs.Fronts.{front, token, judged, closed_symbol, begun, front_from, text_front}
 use Rattle.text.specs.Tokens.{lexeme, Lexed, done, fault, also, lexed, lexed_from}
 
-clash : ◌≡◌ {A = ℕ} 0 1 → ⊥
-clash z = omega arith
-
 -- the bytes of what began before are passed over
 skip : (n i : ℕ) (s : List ℕ) → lexed n i s ≡ lexed 0 (i + n) (drop n s)
 skip zero i s = ap (λ j. lexed 0 j s) (sym (add-zero i))
@@ -27,31 +24,31 @@ pub separator_begins_none : (k : Class) (text rest : List ℕ) → separates k f
 separator_begins_none Blank text rest e = refl
 separator_begins_none Newline text rest e = refl
 separator_begins_none Comment text rest e = refl
-separator_begins_none (Open r) text rest e = absurd (clash cc)
-separator_begins_none (Close r) text rest e = absurd (clash cc)
-separator_begins_none Quote text rest e = absurd (clash cc)
-separator_begins_none Word text rest e = absurd (clash cc)
+separator_begins_none (Open r) text rest e = absurd (cc)
+separator_begins_none (Close r) text rest e = absurd (cc)
+separator_begins_none Quote text rest e = absurd (cc)
+separator_begins_none Word text rest e = absurd (cc)
 
 -- what a word or a symbol begins is a token or refused
 judged_some : (n : ℕ) (r : Result TokenKind Refusal) → begun (judged n r) ≡ Ok None → ⊥
-judged_some n (Ok k) e = clash cc
-judged_some n (Err f) e = clash cc
+judged_some n (Ok k) e = cc
+judged_some n (Err f) e = cc
 
 closed_some : (o : Option ℕ) → begun (closed_symbol o) ≡ Ok None → ⊥
-closed_some None e = clash cc
+closed_some None e = cc
 closed_some (Some n) e = go (leb n 255) e
   where
     go : (v : Bool) → begun (cond v (Ok (front kind.Symbol (n + 2))) (Err refusal.Limit)) ≡ Ok None → ⊥
-    go true e = clash cc
-    go false e = clash cc
+    go true e = cc
+    go false e = cc
 
 -- where no separator begins, a token does, or a refusal
 begins_some : (k : Class) (text rest : List ℕ) → separates k false ≡ false → front_from k text rest ≡ Ok None → ⊥
-begins_some Blank text rest e f = clash cc
-begins_some Newline text rest e f = clash cc
-begins_some Comment text rest e f = clash cc
-begins_some (Open r) text rest e f = clash cc
-begins_some (Close r) text rest e f = clash cc
+begins_some Blank text rest e f = cc
+begins_some Newline text rest e f = cc
+begins_some Comment text rest e f = cc
+begins_some (Open r) text rest e f = cc
+begins_some (Close r) text rest e f = cc
 begins_some Quote text rest e f = closed_some (closing rest) f
 begins_some Word text rest e f = judged_some (word_run text) (kind_of_word (take (word_run text) text)) f
 
@@ -62,24 +59,24 @@ same_token {j} {k} {m} {n} e = let z : front j m ≡ front k n = cc in (ap (λ f
 -- a token has some bytes
 judged_size : (n m : ℕ) (k : TokenKind) (r : Result TokenKind Refusal) → begun (judged n r) ≡ token k m → m ≡ n
 judged_size n m k (Ok j) e = sym (same_token e).1
-judged_size n m k (Err f) e = absurd (clash cc)
+judged_size n m k (Err f) e = absurd (cc)
 
 closed_size : (o : Option ℕ) (k : TokenKind) (m : ℕ) → begun (closed_symbol o) ≡ token k m → 0 < m
-closed_size None k m e = absurd (clash cc)
+closed_size None k m e = absurd (cc)
 closed_size (Some n) k m e = go (leb n 255) e
   where
     go : (v : Bool) → begun (cond v (Ok (front kind.Symbol (n + 2))) (Err refusal.Limit)) ≡ token k m → 0 < m
     go true e = let h = (same_token e).1 in omega arith
-    go false e = absurd (clash cc)
+    go false e = absurd (cc)
 
 pub token_some : (s : List ℕ) (k : TokenKind) (n : ℕ) → text_front s ≡ token k n → 0 < n
-token_some [] k n e = absurd (clash cc)
+token_some [] k n e = absurd (cc)
 token_some (b ∷ s) k n e = go (class_of b) refl
   where
     go : (c : Class) → class_of b ≡ c → 0 < n
-    go Blank p = absurd (clash (let f = rw p at e in cc))
-    go Newline p = absurd (clash (let f = rw p at e in cc))
-    go Comment p = absurd (clash (let f = rw p at e in cc))
+    go Blank p = absurd (let f = rw p at e in cc)
+    go Newline p = absurd (let f = rw p at e in cc)
+    go Comment p = absurd (let f = rw p at e in cc)
     go (Open r) p = let f : token (kind.Open r) 1 ≡ token k n = rw p at e in let h = (same_token f).1 in omega arith
     go (Close r) p = let f : token (kind.Close r) 1 ≡ token k n = rw p at e in let h = (same_token f).1 in omega arith
     go Quote p = closed_size (closing s) k n (rw p at e)
