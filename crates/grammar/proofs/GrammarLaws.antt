@@ -18,15 +18,12 @@ use Rattle.grammar.proofs.GrammarOnly.{script_only}
 use Rattle.grammar.proofs.GrammarOutcomes.{Fits, Holds, not_made, holds, Makes, makes}
 use Rattle.text.proofs.GrammarLaws.{scan_tokens, tokens_scan}
 
-clash : ◌≡◌ {A = ℕ} 0 1 → ⊥
-clash z = omega arith
-
 fresh_fits : (entries : ℕ) → Fits entries fresh
 fresh_fits entries = record { for_nodes = omega arith; for_entries = omega arith; for_types = omega arith; for_bindings = omega arith; for_datatypes = omega arith; for_constructors = omega arith }
 
 -- what reading forms answers
 concluded_ok : (entries : ℕ) (ss : Sexps) (script : Script) (o : Outcome Script) → Holds (ScriptRead entries ss fresh) o → concluded o ≡ Ok script → ScriptOf ss script × Within script entries
-concluded_ok entries ss script (refused r) not_made e = absurd (clash cc)
+concluded_ok entries ss script (refused r) not_made e = absurd (cc)
 concluded_ok entries ss script (made ds m) (holds h) e =
     let same : ds ≡ script = cc in
     let u = h.used in
@@ -47,7 +44,7 @@ sound : (text : List ℕ) (entries : ℕ) (script : Script) → reading text ent
 sound text entries script e = go (scan text) refl e
   where
     go : (r : Result (List Lexeme) Refused) → scan text ≡ r → on_tokens entries r ≡ Ok script → Derives text script × Within script entries
-    go (Err r) p h = absurd (clash cc)
+    go (Err r) p h = absurd (cc)
     go (Ok ts) p h =
         let t = scan_tokens text ts p in
         let c = concluded_ok entries (nested ts) script (read_definitions entries (nested ts) fresh) (script_sound entries (nested ts) fresh (fresh_fits entries)) h in
@@ -85,5 +82,5 @@ reads = record {
   within = λ text entries script e. (sound text entries script e).1;
   read = complete;
   one = one_script;
-  refused = λ text entries r script e d w. clash (let f = complete text entries script d w in cc);
+  refused = λ text entries r script e d w. let f = complete text entries script d w in cc;
 }

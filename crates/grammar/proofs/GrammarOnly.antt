@@ -1,14 +1,11 @@
 -- The grammar is unambiguous: forms are one tree at most.
-use Rattle.std.proofs.Common.{◌≡◌, ℕ, List, sym, refl, ap, ◌∙◌, arith}
+use Rattle.std.proofs.Common.{◌≡◌, List, sym, refl, ap, ◌∙◌}
 use Rattle.grammar.specs.Grammar.{NameOf, TypeOf, int_type, bool_type, sym_type, unit_type, datatype, function_type_rule, TypesOf, no_types, and_type, PartOf, bound, skipped, PartsOf, no_parts, and_part, PatternOf, wildcard, constructor, ExprOf, integer, symbol, true_literal, false_literal, unit_literal, name_expression, if_expression, begin_expression, let_expression, case_expression, dup_expression, apply_expression, ExprsOf, no_exprs, and_expr, BindingsOf, no_bindings, and_binding, BranchesOf, last_branch, and_branch, ConstructorOf, constructor_definition, ConstructorsOf, no_constructors, and_constructor, NamesOf, no_names, and_name, DefinitionOf, datatype_definition, type_annotation, function_definition, val_binding, ScriptOf, no_definitions, and_definition}
 use Rattle.grammar.specs.Reading.{ident}
 use Rattle.grammar.specs.Sexps.{Sexp, Sexps}
 use Rattle.grammar.specs.Trees as tree
 use Rattle.grammar.specs.Trees.{Ident, TypeExpr, TypeExprs, PatternPart, Pattern, Expr, Exprs, Bindings, Branches, Constructor, Definition, Script}
 use Rattle.grammar.proofs.GrammarDefinitions.{one_constructor_law}
-
-clash : ◌≡◌ {A = ℕ} 0 1 → ⊥
-clash z = omega arith
 
 pub name_only : {s : Sexp} {x y : Ident} → NameOf s x → NameOf s y → x ≡ y
 name_only {s} {x} {y} e f =
@@ -19,20 +16,20 @@ name_only {s} {x} {y} e f =
 mutual
   type_only : {s : Sexp} {t u : TypeExpr} → TypeOf s t → TypeOf s u → t ≡ u
   type_only int_type int_type = refl
-  type_only int_type (datatype e) = absurd (clash cc)
+  type_only int_type (datatype e) = absurd (cc)
   type_only bool_type bool_type = refl
-  type_only bool_type (datatype e) = absurd (clash cc)
+  type_only bool_type (datatype e) = absurd (cc)
   type_only sym_type sym_type = refl
-  type_only sym_type (datatype e) = absurd (clash cc)
+  type_only sym_type (datatype e) = absurd (cc)
   type_only unit_type unit_type = refl
-  type_only unit_type (datatype e) = absurd (clash cc)
+  type_only unit_type (datatype e) = absurd (cc)
   type_only (datatype e) (datatype f) = ap tree.datatype (name_only e f)
-  type_only (datatype e) int_type = absurd (clash cc)
-  type_only (datatype e) bool_type = absurd (clash cc)
-  type_only (datatype e) sym_type = absurd (clash cc)
-  type_only (datatype e) unit_type = absurd (clash cc)
-  type_only (datatype e) (function_type_rule a b) = absurd (clash cc)
-  type_only (function_type_rule a b) (datatype e) = absurd (clash cc)
+  type_only (datatype e) int_type = absurd (cc)
+  type_only (datatype e) bool_type = absurd (cc)
+  type_only (datatype e) sym_type = absurd (cc)
+  type_only (datatype e) unit_type = absurd (cc)
+  type_only (datatype e) (function_type_rule a b) = absurd (cc)
+  type_only (function_type_rule a b) (datatype e) = absurd (cc)
   type_only (function_type_rule a b) (function_type_rule c d) = cc (types_only a c, type_only b d)
 
   types_only : {ss : Sexps} {t u : TypeExprs} → TypesOf ss t → TypesOf ss u → t ≡ u
@@ -41,8 +38,8 @@ mutual
 
 part_only : {s : Sexp} {x y : PatternPart} → PartOf s x → PartOf s y → x ≡ y
 part_only (bound e) (bound f) = ap tree.bound (name_only e f)
-part_only (bound e) skipped = absurd (clash cc)
-part_only skipped (bound e) = absurd (clash cc)
+part_only (bound e) skipped = absurd (cc)
+part_only skipped (bound e) = absurd (cc)
 part_only skipped skipped = refl
 
 parts_only : {ss : Sexps} {x y : List PatternPart} → PartsOf ss x → PartsOf ss y → x ≡ y

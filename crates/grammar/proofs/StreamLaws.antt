@@ -19,9 +19,6 @@ use Rattle.grammar.specs.Grammar.{Nested}
 use Rattle.grammar.specs.Sexps.{Sexp, atom, list, Sexps, nil, cons, opening, closing, flat, flats, Atoms, AllAtoms}
 use Rattle.grammar.specs.Streams.{stream, streams}
 
-clash : ◌≡◌ {A = ℕ} 0 1 → ⊥
-clash z = omega arith
-
 -- A token that stands next from a place on.
 pub record TokenAt (text : List ℕ) (t : Lexeme) (rest : Lexed) : Type 0 where
   -- it stands next from its own place on, too, and behind it what follows
@@ -51,8 +48,8 @@ token_at text at t rest e = go (text_front x) refl
     from_at = over_separators at (drop at text) ∙ ap (lexed 0 j) (drop-drop (separator_run false (drop at text)) at text) ∙ from_j
 
     go : (f : Result (Option Front) Refusal) → text_front x ≡ f → TokenAt text t rest
-    go (Ok None) f = absurd (clash (let z : ◌≡◌ {A = Lexed} done (also t rest) = sym (from_at ∙ ap (continued j x) f) ∙ e in cc))
-    go (Err r) f = absurd (clash (let z : ◌≡◌ {A = Lexed} (fault r j) (also t rest) = sym (from_at ∙ ap (continued j x) f) ∙ e in cc))
+    go (Ok None) f = absurd (let z : ◌≡◌ {A = Lexed} done (also t rest) = sym (from_at ∙ ap (continued j x) f) ∙ e in cc)
+    go (Err r) f = absurd (let z : ◌≡◌ {A = Lexed} (fault r j) (also t rest) = sym (from_at ∙ ap (continued j x) f) ∙ e in cc)
     go (Ok (Some begun)) f =
         let k = begun.kind in
         let n = begun.size in
@@ -94,7 +91,7 @@ no_form : (shape : Bracket) (q : ℕ) (l : Lexed) (s : Sexp) (m : Lexed) → Ato
 no_form shape q l (atom k p w) m a e = let z : lexeme (kind.Close shape) q (closing shape) ≡ lexeme k p w = cc in subst NoBracket (sym (ap (λ t. t.kind) z)) a
 no_form shape q l (list shape' p ss q') m a e =
     let z : lexeme (kind.Close shape) q (closing shape) ≡ lexeme (kind.Open shape') p (opening shape') = cc in
-    clash (let y : kind.Close shape ≡ kind.Open shape' = ap (λ t. t.kind) z in cc)
+    let y : kind.Close shape ≡ kind.Open shape' = ap (λ t. t.kind) z in cc
 
 -- A form is the only one whose tokens come next.
 mutual
@@ -143,25 +140,25 @@ all (t ∷ ts) = also t (all ts)
 
 balanced_all : (end : ℕ) (opened : List Bracket) (l : Lexed) (ts : List Lexeme) → balanced end opened l ≡ Ok ts → l ≡ all ts
 balanced_all end [] done ts e = let z : [] ≡ ts = cc in ap all z
-balanced_all end (b ∷ opened) done ts e = absurd (clash cc)
-balanced_all end opened (fault r i) ts e = absurd (clash cc)
+balanced_all end (b ∷ opened) done ts e = absurd (cc)
+balanced_all end opened (fault r i) ts e = absurd (cc)
 balanced_all end opened (also t rest) ts e = go (λ after us. balanced_all end after rest us) (nesting t.kind opened) e
   where
     next : ((after : List Bracket) (us : List Lexeme) → balanced end after rest ≡ Ok us → rest ≡ all us) → (r : Result (List Lexeme) given.Refused) (after : List Bracket) → balanced end after rest ≡ r → precede t r ≡ Ok ts → also t rest ≡ all ts
-    next more (Err x) after h e = absurd (clash cc)
+    next more (Err x) after h e = absurd (cc)
     next more (Ok us) after h e = let z : t ∷ us ≡ ts = cc in ap (also t) (more after us h) ∙ ap all z
 
     go : ((after : List Bracket) (us : List Lexeme) → balanced end after rest ≡ Ok us → rest ≡ all us) → (r : Result (List Bracket) Refusal)
         → ◌≡◌ {A = Result (List Lexeme) given.Refused} (elim r [ Ok after ↦ precede t (balanced end after rest) | Err e ↦ Err (refused_at e t.place) ]) (Ok ts) → also t rest ≡ all ts
     go more (Ok after) e = next more (balanced end after rest) after refl e
-    go more (Err r) e = absurd (clash cc)
+    go more (Err r) e = absurd (cc)
 
 scan_all : (text : List ℕ) (ts : List Lexeme) → scan text ≡ Ok ts → lexed_from text 0 ≡ all ts
 scan_all text ts e = go (leb (length text) 65535) e
   where
     go : (b : Bool) → cond b (balanced (length text) [] (lexed_from text 0)) (Err (refused_at refusal.Limit 65535)) ≡ Ok ts → lexed_from text 0 ≡ all ts
     go true e = balanced_all (length text) [] (lexed_from text 0) ts e
-    go false e = absurd (clash cc)
+    go false e = absurd (cc)
 
 mutual
   all_flat : (s : Sexp) (rest : List Lexeme) → all (flat s rest) ≡ stream s (all rest)
