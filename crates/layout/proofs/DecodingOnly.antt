@@ -21,12 +21,9 @@ use Rattle.layout.specs.declared.type_node.TypeForm.{TypeForm}
 use Rattle.layout.specs.declared.type_node.TypeNode.{TypeNode}
 use Rattle.layout.specs.declared.word.Word.{Word}
 
-clash : ◌≡◌ {A = ℕ} 0 1 → ⊥
-clash z = omega arith
-
 -- an end that is reached is not still to come
 ahead : {X : Type 0} {i j : ℕ} → i ≡ j → i < j → X
-ahead e h = absurd (clash (omega arith))
+ahead e h = absurd (omega arith)
 
 module _ (text : List ℕ) where
   pub spells_only : {w : Word} {x y : Ident} → Spells text w x → Spells text w y → x ≡ y
