@@ -9,11 +9,8 @@ use Rattle.symbols.specs.Indexing.{word_in, bytes_in, Finds, Adds, first_of, Hol
 use Rattle.symbols.specs.Parts.{quoted}
 use Rattle.symbols.specs.declared.index.Index.{Index}
 
-clash : ◌≡◌ {A = ℕ} 0 1 → ⊥
-clash z = omega arith
-
 pub append_some : (xs ys : List Literal) (w : List ℕ) (p : ℕ) → first_of xs w ≡ Some p → first_of (xs ++ ys) w ≡ Some p
-append_some [] ys w p e = absurd (clash cc)
+append_some [] ys w p e = absurd (cc)
 append_some (x ∷ xs) ys w p e = go (bytes_eq x.bytes w) e (append_some xs ys w p)
   where
     go : (b : Bool) → cond b (Some x.place) (first_of xs w) ≡ Some p → (first_of xs w ≡ Some p → first_of (xs ++ ys) w ≡ Some p) → cond b (Some x.place) (first_of (xs ++ ys) w) ≡ Some p
@@ -25,11 +22,11 @@ append_none [] ys w e = refl
 append_none (x ∷ xs) ys w e = go (bytes_eq x.bytes w) e (append_none xs ys w)
   where
     go : (b : Bool) → cond b (Some x.place) (first_of xs w) ≡ None → (first_of xs w ≡ None → first_of (xs ++ ys) w ≡ first_of ys w) → cond b (Some x.place) (first_of (xs ++ ys) w) ≡ first_of ys w
-    go true e more = absurd (clash cc)
+    go true e more = absurd (cc)
     go false e more = more e
 
 pub place_is : (xs : List Literal) (w : List ℕ) (p : ℕ) → first_of xs w ≡ Some p → place_of_first xs w ≡ p
-place_is [] w p e = absurd (clash cc)
+place_is [] w p e = absurd (cc)
 place_is (x ∷ xs) w p e = go (bytes_eq x.bytes w) e (place_is xs w p)
   where
     go : (b : Bool) → cond b (Some x.place) (first_of xs w) ≡ Some p → (first_of xs w ≡ Some p → place_of_first xs w ≡ p) → cond b x.place (place_of_first xs w) ≡ p
@@ -47,7 +44,7 @@ single_only l w p e = go (bytes_eq l.bytes w) refl e
   where
     go : (b : Bool) → bytes_eq l.bytes w ≡ b → cond b (Some l.place) None ≡ Some p → l.bytes ≡ w
     go true h e = (bytes_eq-Decides l.bytes w).0 h
-    go false h e = absurd (clash cc)
+    go false h e = absurd (cc)
 
 -- A literal more whose bytes are known, and one whose bytes are new.
 module _ (text : List ℕ) (index : Index) (seen : List Literal) (h : Holds text index seen) (l : Literal) where
@@ -68,7 +65,7 @@ module _ (text : List ℕ) (index : Index) (seen : List Literal) (h : Holds text
         go v p e (Some q) is = h.all v q is
         go v p e None is =
             let same = single_only l v p (sym (append_none seen (l ∷ []) v is) ∙ e) in
-            absurd (clash (let z : ◌≡◌ {A = Option ℕ} None (Some w.place) = sym is ∙ ap (first_of seen) (sym same) ∙ known in cc))
+            absurd (let z : ◌≡◌ {A = Option ℕ} None (Some w.place) = sym is ∙ ap (first_of seen) (sym same) ∙ known in cc)
 
   module _ (missing : Finds text index l.bytes None) where
     unknown : first_of seen l.bytes ≡ None
@@ -110,4 +107,4 @@ module _ (text : List ℕ) (index : Index) (seen : List Literal) (h : Holds text
 
 -- nothing is held at first
 pub none_held : (text : List ℕ) (index : Index) → index.count ≡ 0 → Holds text index []
-none_held text index e = record { first = λ k low. absurd (omega arith); all = λ w p h. absurd (clash cc) }
+none_held text index e = record { first = λ k low. absurd (omega arith); all = λ w p h. absurd (cc) }
