@@ -23,9 +23,6 @@ use Rattle.text.specs.declared.keyword.Keyword.TheVariants as keyword
 use Rattle.text.specs.declared.token.TokenKind.{TokenKind}
 use Rattle.text.specs.declared.token.TokenKind.TheVariants as kind
 
-clash : ◌≡◌ {A = ℕ} 0 1 → ⊥
-clash z = omega arith
-
 -- what the front says of the word of a name at p, behind which stands another place
 abbrev pub TakesUp : ℕ → ℕ → Word → Type 0
 TakesUp p after name = p ≤ after → after ≤ p + 63 → after ≤ 65535 → name ≡ word_at p (after - p)
@@ -82,7 +79,7 @@ by_name text place p after w name xs (bound {x = x} h) e short seen is more =
     let ep : x.place ≡ p = cc in
     let ew : x.bytes ≡ w = cc in
     (name_lies text place p after w name x short seen is ep ew, more)
-by_name text place p after w name xs skipped e short seen is more = absurd (clash cc)
+by_name text place p after w name xs skipped e short seen is more = absurd (cc)
 
 by_other : (text : List ℕ) (after : ℕ) (xs : List PatternPart) {s : Sexp} {x : PatternPart} → PartOf s x → (k : TokenKind) (p : ℕ) (w : List ℕ) → s ≡ atom k p w → (k ≡ kind.Name → ⊥)
     → PartsAt text after xs → IsPart text (x ∷ xs) (Some (record { name = None; after = after }))
@@ -134,7 +131,7 @@ in_brackets : (text : List ℕ) (place p after : ℕ) (r : Bracket) (w : List �
     → Seen text place (kind.Open r) w p after → (h : Option Head) → ((c : Ident) (xs : List PatternPart) → HeadAt text after c xs → IsHead text (tree.constructor p c xs) h) → IsHead text x h
 in_brackets text place p after r w (wildcard {p = p'} {w = w'}) a rest e seen h f =
     let l = is_list r p w (lexed_from text after) (atom (kind.Keyword keyword.Wildcard) p' w') rest a (sym seen.follows ∙ e) in
-    absurd (clash (let z : atom (kind.Keyword keyword.Wildcard) p' w' ≡ list l.shape p l.parts l.end = l.is in cc))
+    absurd (let z : atom (kind.Keyword keyword.Wildcard) p' w' ≡ list l.shape p l.parts l.end = l.is in cc)
 in_brackets text place p after r w (constructor {a = a'} {p = p'} {q = q} {s = s} {ss = ss} {c = c} {xs = xs} name derived) a rest e seen h f =
     let l = is_list r p w (lexed_from text after) (list a' p' (cons s ss) q) rest a (sym seen.follows ∙ e) in
     let z : list a' p' (cons s ss) q ≡ list l.shape p l.parts l.end = l.is in
@@ -153,7 +150,7 @@ without text place (constructor {a = a'} {p = p'} {q = q} {s = s} {ss = ss} name
     not_close sees.0 p sees.1.0 (lexed_from text after) (list a' p' (cons s ss) q) rest a (sym seen.follows ∙ e)
 without text place (constructor {a = a'} {p = p'} {q = q} {s = s} {ss = ss} name derived) a rest e (look.Atom k p after) sees f =
     let l = is_atom k p sees.0 (lexed_from text after) (list a' p' (cons s ss) q) rest sees.2 (sym sees.1.follows ∙ e) in
-    clash (let z : list a' p' (cons s ss) q ≡ atom k p sees.0 = l.0 in cc)
+    let z : list a' p' (cons s ss) q ≡ atom k p sees.0 = l.0 in cc
 
 pub bracketed : (text : List ℕ) (place p after : ℕ) (r : Bracket) (w : List ℕ) (x : Pattern) → Shows text place x
     → Seen text place (kind.Open r) w p after → (h : Option Head) → ((c : Ident) (xs : List PatternPart) → HeadAt text after c xs → IsHead text (tree.constructor p c xs) h) → IsHead text x h
