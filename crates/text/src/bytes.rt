@@ -35,7 +35,7 @@ pub(crate) fn class_of(b: u8) -> Class
 fn stands_in_word(b: u8) -> bool
     ensures { result ≡ in_word (class_of b) }
 {
-    matches!(class_of(b), Class::Word)
+    class_of(b) == Class::Word
 }
 
 // How many bytes at the front can stand in a word.
