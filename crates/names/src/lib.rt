@@ -5,4 +5,4 @@ mod index;
 mod parts;
 
 pub use index::Index;
-pub use parts::{cut, part};
+pub use parts::{cut, part, sum};

@@ -1,6 +1,6 @@
 // Names as parts of a text.
 ghost use Rattle.std.specs.Prelude.{◌≡◌, ◌<◌, take, drop};
-ghost use Rattle.names.specs.Parts.{part_of, hashed, bucket_of};
+ghost use Rattle.names.specs.Parts.{part_of, sum_of, bucket_of};
 
 use layout::Word;
 
@@ -19,14 +19,22 @@ pub fn part(text: &[u8], word: Word) -> &[u8]
     cut(text, word.place as usize, word.size as usize)
 }
 
+// A number that tells most bytes apart.
+pub fn sum(bytes: &[u8]) -> usize
+    ensures value { result ≡ sum_of bytes.now }
+    ensures few { result < 4294967296 }
+{
+    let mut sum: usize = 0;
+    for b in bytes {
+        sum = (sum * 31 + *b as usize) % 4294967296;
+    }
+    sum
+}
+
 // In which of the 256 buckets a name lies.
 pub(crate) fn bucket(name: &[u8]) -> usize
     ensures value { result ≡ bucket_of name.now }
     ensures few { result < 256 }
 {
-    let mut sum: usize = 0;
-    for b in name {
-        sum = (sum * 31 + *b as usize) % 256;
-    }
-    sum
+    sum(name) % 256
 }

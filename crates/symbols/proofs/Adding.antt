@@ -7,7 +7,8 @@ use Rattle.layout.specs.declared.word.Word.{Word}
 use Rattle.names.specs.Indexing.{last_in}
 use Rattle.names.proofs.Linking.{heads_more, links_more}
 use Rattle.symbols.specs.Indexing.{IsIndex, Adds, word_in, bytes_in, bucket_in}
-use Rattle.symbols.specs.Parts.{quoted, sum_of, bucket_of}
+use Rattle.names.specs.Parts.{sum_of}
+use Rattle.symbols.specs.Parts.{quoted, bucket_of}
 use Rattle.symbols.specs.declared.index.Index.{Index}
 
 module _ (text : List ℕ) (index new : Index) (word : Word) (sum h : ℕ) (summed : sum ≡ sum_of (quoted text word)) (bucket : h ≡ sum % 4096) (words : new.literals ≡ set index.literals index.count word) (room : index.count < length index.literals)

@@ -5,7 +5,8 @@ use Rattle.layout.specs.Literals.{Literal}
 use Rattle.layout.specs.Tabling.{unused_word}
 use Rattle.layout.specs.declared.word.Word.{Word}
 use Rattle.names.specs.Indexing.{last_in}
-use Rattle.symbols.specs.Parts.{quoted, sum_of, bucket_of}
+use Rattle.names.specs.Parts.{sum_of}
+use Rattle.symbols.specs.Parts.{quoted, bucket_of}
 use Rattle.symbols.specs.declared.index.Index.{Index}
 
 -- the literal with a number, and its bytes

@@ -3,10 +3,11 @@
 // common to both, and its two sizes, its parts, its sums and a fact that there is a bucket would be parameters.
 ghost use Rattle.std.specs.Prelude.{◌≡◌, ◌↔◌, ℕ, ◌<◌, IsTrue, List};
 ghost use Rattle.symbols.specs.Indexing.{IsIndex, bytes_in, Finds, Adds};
-ghost use Rattle.symbols.specs.Parts.{sum_of};
+ghost use Rattle.names.specs.Parts.{sum_of};
 
-use super::bytes::{between, sum};
+use super::bytes::between;
 use layout::Word;
+use names::sum;
 
 const BUCKETS: usize = 4096;
 

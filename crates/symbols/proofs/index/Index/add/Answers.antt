@@ -1,5 +1,5 @@
 use Rattle.std.proofs.Common.{◌≡◌, ◌<◌, ◌%◌, length, refl, ap, ◌∙◌, arith, rules}
-use Rattle.symbols.specs.Parts.{sum_of}
+use Rattle.names.specs.Parts.{sum_of}
 use Rattle.symbols.proofs.Adding.{added}
 use Rattle.symbols.proofs.index.Index.add.Goals as goal
 
