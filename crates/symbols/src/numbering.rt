@@ -1,5 +1,5 @@
 // The pass over a node list that numbers its symbols.
-ghost use Rattle.std.specs.Prelude.{◌≡◌, ℕ, ◌+◌, ◌<◌, ◌≤◌, List, [], ◌∷◌, ◌++◌, take, drop};
+ghost use Rattle.std.specs.Prelude.{◌≡◌, ℕ, ◌+◌, ◌<◌, ◌≤◌, List, [], ◌∷◌, ◌++◌, length, take, drop};
 ghost use Rattle.layout.specs.Literals.{Literal, place_of_first};
 ghost use Rattle.symbols.specs.Indexing.{IsIndex, Holds};
 ghost use Rattle.symbols.specs.Numbering.{literal_at, numbered};
@@ -27,17 +27,24 @@ fn first_place(index: &mut Index, text: &[u8], place: u16) -> u16
     }
 }
 
+// Each symbol gets the place of the first literal with the same bytes.
+fn number_each(text: &[u8], nodes: &mut [Node])
+    requires { length nodes.old ≤ 4096 }
+    ensures { nodes.new ≡ numbered text.now [] nodes.old }
+{
+    let mut index = Index::new();
+    for node in nodes.iter_mut() {
+        if let NodeForm::Symbol(place) = node.form {
+            let first = first_place(&mut index, text, place);
+            node.form = NodeForm::Symbol(first);
+        }
+    }
+}
+
 // Each symbol gets the place of the first literal with the same bytes. Only the first 4096 entries can be nodes.
 pub fn number_symbols(text: &[u8], nodes: &mut [Node])
     ensures { nodes.new ≡ numbered text.now [] (take 4096 nodes.old) ++ drop 4096 nodes.old }
 {
-    let mut index = Index::new();
     let count = nodes.len().min(NODES);
-    // By number: the invariant speaks of the nodes before and behind it, in the list as it is written.
-    for i in 0..count {
-        if let NodeForm::Symbol(place) = nodes[i].form {
-            let first = first_place(&mut index, text, place);
-            nodes[i].form = NodeForm::Symbol(first);
-        }
-    }
+    number_each(text, &mut nodes[..count]);
 }
