@@ -11,9 +11,6 @@ use Rattle.forms.specs.Surveys.{counted, parts_of, Known, added}
 use Rattle.forms.specs.declared.counting.OpenList.{OpenList}
 use Rattle.forms.proofs.SurveyLaws.{counted_atom, not_here}
 
-clash : {x : ℕ} → ◌≡◌ {A = Option ℕ} None (Some x) → ⊥
-clash z = cc
-
 -- For each open list, the newest first, the parts so far and those to come are its parts; so many brackets are open inside it.
 abbrev pub Pending : List ℕ → Lexed → ℕ → List OpenList → Type 0
 Pending text l d [] = Unit {0}
@@ -89,7 +86,7 @@ pub known_none : (text : List ℕ) (n : ℕ) → Known text (replicate {A = Opti
 known_none text n place parts = go (cases_lt place n)
   where
     nothing : ◌≡◌ {A = Option ℕ} (get_or (replicate {A = Option ℕ} n None) place None) None → get_or (replicate {A = Option ℕ} n None) place None ≡ Some parts → parts ≡ parts_of (lexed_from text place)
-    nothing e some = absurd (clash (sym e ∙ some))
+    nothing e some = absurd (let z : ◌≡◌ {A = Option ℕ} None (Some parts) = sym e ∙ some in cc)
 
     go : (place < n) ⊎ (n ≤ place) → get_or (replicate {A = Option ℕ} n None) place None ≡ Some parts → parts ≡ parts_of (lexed_from text place)
     go (inl h) = nothing (get_or-replicate n place None None h)

@@ -109,14 +109,11 @@ view nil = is_wrong
 view (cons h es) = headed_view (head_of h) h es
 
 -- a list of two parts, or of another number
-clash : ◌≡◌ {A = ℕ} 0 1 → ⊥
-clash z = omega arith
-
 pub count_two : (ss : Sexps) → min 7 (count ss) ≡ 2 → (x : Sexp) × ((e : Sexp) × (ss ≡ cons x (cons e nil)))
-count_two nil h = absurd (clash (omega arith))
-count_two (cons x nil) h = absurd (clash (omega arith))
+count_two nil h = absurd (omega arith)
+count_two (cons x nil) h = absurd (omega arith)
 count_two (cons x (cons e nil)) h = (x, (e, refl))
-count_two (cons x (cons e (cons y ss))) h = absurd (clash (omega arith))
+count_two (cons x (cons e (cons y ss))) h = absurd (omega arith)
 
 pub other_two : (ss : Sexps) → (min 7 (count ss) ≡ 2 → ⊥) → two_of ss ≡ not_two
 other_two nil h = refl

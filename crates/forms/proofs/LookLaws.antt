@@ -1,5 +1,5 @@
 -- What stands next, as a token by itself or a list.
-use Rattle.std.proofs.Common.{◌≡◌, ℕ, false, List, Some, None, Option, sym, ap, subst, arith}
+use Rattle.std.proofs.Common.{◌≡◌, ℕ, false, List, Some, None, Option, sym, ap, subst}
 use Rattle.std.specs.Option.{is_some}
 use Rattle.text.specs.Grammar.{NoBracket}
 use Rattle.text.specs.Tokens.{Lexeme, lexeme, Lexed, also, lexed_from}
@@ -10,9 +10,6 @@ use Rattle.forms.specs.Looks.{NotClosing, Closes}
 use Rattle.forms.specs.Rows.{closed_by}
 use Rattle.grammar.specs.Sexps.{Sexp, atom, list, Sexps, opening, Atoms, AllAtoms}
 use Rattle.grammar.specs.Streams.{stream}
-
-clash : ◌≡◌ {A = ℕ} 0 1 → ⊥
-clash z = omega arith
 
 -- a token that is no bracket is an atom
 pub is_atom : (k : TokenKind) (p : ℕ) (w : List ℕ) (l : Lexed) (s : Sexp) (rest : Lexed) → NoBracket k → also (lexeme k p w) l ≡ stream s rest → (s ≡ atom k p w) × (l ≡ rest)
@@ -49,7 +46,7 @@ pub not_close : (r : Bracket) (p : ℕ) (w : List ℕ) (l : Lexed) (s : Sexp) (r
 not_close r p w l (atom k p' w') rest a e = let z : lexeme (kind.Close r) p w ≡ lexeme k p' w' = cc in subst NoBracket (sym (ap (λ t. t.kind) z)) a
 not_close r p w l (list r' p' ss q) rest a e =
     let z : lexeme (kind.Close r) p w ≡ lexeme (kind.Open r') p' (opening r') = cc in
-    clash (let y : kind.Close r ≡ kind.Open r' = ap (λ t. t.kind) z in cc)
+    let y : kind.Close r ≡ kind.Open r' = ap (λ t. t.kind) z in cc
 
 pub some_token : (l : Lexed) (s : Sexp) (rest : Lexed) → ((t : Lexeme) (more : Lexed) → l ≡ also t more → ⊥) → l ≡ stream s rest → ⊥
 some_token l (atom k p w) rest f e = f _ _ e
@@ -57,5 +54,5 @@ some_token l (list r p ss q) rest f e = f _ _ e
 
 -- where no closing bracket was found
 pub not_closing : (text : List ℕ) (place : ℕ) (o : Option ℕ) → Closes text place o → is_some o ≡ false → NotClosing (lexed_from text place)
-not_closing text place (Some after) c h = absurd (clash cc)
+not_closing text place (Some after) c h = absurd (cc)
 not_closing text place None c h = c

@@ -1,5 +1,5 @@
 -- Patterns and their parts, by what stands next.
-use Rattle.std.proofs.Common.{◌≡◌, ℕ, true, false, List, ◌∷◌, Ok, Err, Result, sym, refl, ap, ◌∙◌, subst, arith}
+use Rattle.std.proofs.Common.{◌≡◌, ℕ, true, false, List, ◌∷◌, Ok, Err, Result, sym, refl, ap, ◌∙◌, subst}
 use Rattle.text.specs.Grammar.{NoBracket}
 use Rattle.text.specs.Scans.{refused_at}
 use Rattle.text.specs.Tokens.{Lexeme, lexeme, Lexed, also, lexed_from}
@@ -19,9 +19,6 @@ use Rattle.forms.specs.declared.names.NameAt.{NameAt}
 use Rattle.forms.proofs.LookLaws.{is_atom, is_list, some_token}
 use Rattle.forms.proofs.RowLaws.{left_none}
 
-clash : ◌≡◌ {A = ℕ} 0 1 → ⊥
-clash z = omega arith
-
 -- what is left of the parts gives the whole
 abbrev pub Carries : List ℕ → ℕ → ℕ → Type 0
 Carries text place at = (r : Result ℕ Refused) → PassedAll read_parts text at r → PassedAll read_parts text place r
@@ -30,13 +27,13 @@ Carries text place at = (r : Result ℕ Refused) → PassedAll read_parts text a
 pub part_good : (k : TokenKind) (p : ℕ) (w : List ℕ) (n : Tally) → part_kind k ≡ true → (x : PatternPart) × (part_of k p w n ≡ made x n)
 part_good kind.Name p w n e = (_, refl)
 part_good (kind.Keyword k) p w n e = (skipped p, rw e refl)
-part_good (kind.Open r) p w n e = absurd (clash cc)
-part_good (kind.Close r) p w n e = absurd (clash cc)
-part_good kind.Symbol p w n e = absurd (clash cc)
-part_good (kind.Integer z) p w n e = absurd (clash cc)
+part_good (kind.Open r) p w n e = absurd (cc)
+part_good (kind.Close r) p w n e = absurd (cc)
+part_good kind.Symbol p w n e = absurd (cc)
+part_good (kind.Integer z) p w n e = absurd (cc)
 
 pub part_wrong : (k : TokenKind) (p : ℕ) (w : List ℕ) (n : Tally) → part_kind k ≡ false → part_of k p w n ≡ refused (refused_at refusal.Form p)
-part_wrong kind.Name p w n e = absurd (clash cc)
+part_wrong kind.Name p w n e = absurd (cc)
 part_wrong (kind.Keyword k) p w n e = rw e refl
 part_wrong (kind.Open r) p w n e = refl
 part_wrong (kind.Close r) p w n e = refl
@@ -75,7 +72,7 @@ module _ (text : List ℕ) (at : ℕ) where
   parts_list k w p after x seen is_x nil shape q rest n e a =
       let z : also (lexeme (kind.Open k) p w) (lexed_from text after) ≡ also (lexeme (kind.Close shape) q (closing shape)) rest = sym seen.follows ∙ e in
       let y : lexeme (kind.Open k) p w ≡ lexeme (kind.Close shape) q (closing shape) = cc in
-      absurd (clash (let v : kind.Open k ≡ kind.Close shape = ap (λ t. t.kind) y in cc))
+      absurd (let v : kind.Open k ≡ kind.Close shape = ap (λ t. t.kind) y in cc)
   parts_list k w p after x seen is_x (cons s ss) shape q rest n e a =
       let l = is_list k p w (lexed_from text after) s (closed_by ss shape q rest) a.0 (sym seen.follows ∙ e) in
       subst (λ s. Passed text rest (and_then (read_part s n) (λ x n. and_then (read_parts ss n) (λ xs n. made (x ∷ xs) n))) (Err x)) (sym l.is) (ap Err is_x)
@@ -107,20 +104,20 @@ module _ (text : List ℕ) (place at : ℕ) where
   constructor_parts name opened named r h (cons s ss) shape q rest n e a = go (name_read s n) (named s (closed_by ss shape q rest) n e a.0)
     where
       go : (o : Outcome Ident) → Named text (closed_by ss shape q rest) o (Ok name) → Passed text rest (and_then o (λ c n. and_then (read_parts ss n) (λ xs n. made (constructor place c xs) n))) r
-      go (refused y) t = absurd (clash cc)
+      go (refused y) t = absurd (cc)
       go (made i m) t = passed_on text rest (read_parts ss m) (λ xs. constructor place i xs) r (h ss shape q rest m t.2 a.1)
 
 -- A pattern, by what stands next.
 pub pattern_made : (text : List ℕ) (rest : Lexed) (p after : ℕ) (ss : Sexps) (n : Tally) → Passed text rest (read_constructor_pattern p ss n) (Ok after) → Patterned text rest (read_constructor_pattern p ss n) (Ok (record { place = p; after = after }))
-pattern_made text rest p after nil n t = absurd (clash cc)
+pattern_made text rest p after nil n t = absurd (cc)
 pattern_made text rest p after (cons s ss) n t = go (name_read s n) t
   where
     rows : (c : Ident) (o : Outcome (List PatternPart)) → Passed text rest (and_then o (λ xs n. made (constructor p c xs) n)) (Ok after) → Patterned text rest (and_then o (λ xs n. made (constructor p c xs) n)) (Ok (record { place = p; after = after }))
-    rows c (refused y) t = absurd (clash cc)
+    rows c (refused y) t = absurd (cc)
     rows c (made xs m) t = (refl, t)
 
     go : (o : Outcome Ident) → Passed text rest (and_then o (λ c n. and_then (read_parts ss n) (λ xs n. made (constructor p c xs) n))) (Ok after) → Patterned text rest (and_then o (λ c n. and_then (read_parts ss n) (λ xs n. made (constructor p c xs) n))) (Ok (record { place = p; after = after }))
-    go (refused y) t = absurd (clash cc)
+    go (refused y) t = absurd (cc)
     go (made c m) t = rows c (read_parts ss m) t
 
 pub pattern_refused : (text : List ℕ) (rest : Lexed) (o : Outcome Pattern) (x : Refused) → Passed text rest o (Err x) → Patterned text rest o (Err x)

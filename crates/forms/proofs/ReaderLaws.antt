@@ -46,9 +46,6 @@ use Rattle.forms.proofs.RowLaws.{left_none, left_some, along_start, along_end, a
 use Rattle.forms.proofs.SurveyLaws.{survey_list}
 use Rattle.forms.proofs.ToldLaws.{told_stop, told_refused, told_map, told_spot}
 
-clash : ◌≡◌ {A = ℕ} 0 1 → ⊥
-clash z = omega arith
-
 -- A loop over the parts of a list.
 module _ {A : Type 0} (read : Sexp → Tally → Outcome A) (encoding : ℕ → A → List Node) where
   abbrev pub Halfway : List ℕ → Spot → List Node → Spot → List Node → Type 0
@@ -130,8 +127,8 @@ head_behind text place inside (atom k p w) es shape q rest b e t = b.2 _ _ e
 head_behind text place inside (list r p ss q') es shape q rest b e t = absurd (go (ltb 0 (suc (count es))) t)
   where
     go : (b : Bool) → wordy (cond b (Some formkind.Apply) None) ≡ true → ⊥
-    go true t = clash cc
-    go false t = clash cc
+    go true t = cc
+    go false t = cc
 
 module _ (text : List ℕ) (spot : Spot) (ns : List Node) (entries depth p : ℕ) (r : Result Spot Refused) (after : List Node) (f : Option FormKind) (is_kind : f ≡ form_kind (surveyed (lexed_from text spot.place)).head (surveyed (lexed_from text spot.place)).parts) where
   kind_is : (ss : Sexps) (shape : Bracket) (q : ℕ) (rest : Lexed) → lexed_from text spot.place ≡ closed_by ss shape q rest → AllAtoms ss → f ≡ form_kind (first_head ss) (count ss)
@@ -198,7 +195,7 @@ expr_atom_law text spot ns entries depth s rest n e k w p after r now seen b t =
     (told_spot (λ n. n.nodes) text (lexed_from text after) (record { place = p; used = spot.used }) spot ns (encode spot.used) (expr_atom entries p (atom_expr entries k p w) n) r now refl t))
 
 expr_depth : (entries d : ℕ) (shape : Bracket) (p : ℕ) (ss : Sexps) (q : ℕ) (n : Tally) → 0 < d → read_expr entries d (list shape p ss q) n ≡ reading_at entries (d - 1) p (form_named ss) n
-expr_depth entries zero shape p ss q n h = absurd (clash (omega arith))
+expr_depth entries zero shape p ss q n h = absurd (omega arith)
 expr_depth entries (suc d) shape p ss q n h = let same : d ≡ suc d - 1 = omega arith in ap (λ j. reading_at entries j p (form_named ss) n) same
 
 module _ (text : List ℕ) (spot : Spot) (ns : List Node) (k : Bracket) (w : List ℕ) (p inside : ℕ) (seen : Seen text spot.place (kind.Open k) w p inside) where
@@ -321,8 +318,8 @@ module _ (text : List ℕ) (spot : Spot) (ns : List Node) (entries p m : ℕ) (r
   binding_form i = form.Binding (word i)
 
   no_name : (mid : Lexed) (name : NameAt) (o : Outcome Ident) → Named text mid o (Ok name) → (z : Refused) → o ≡ refused z → ⊥
-  no_name mid name (refused y) t z h = clash cc
-  no_name mid name (made i k) t z h = clash cc
+  no_name mid name (refused y) t z h = cc
+  no_name mid name (made i k) t z h = cc
 
   name_next : (mid : Lexed) (name : NameAt) (o : Outcome Ident) → Named text mid o (Ok name) → (i : Ident) (k : Tally) → o ≡ made i k → Named text mid (made i k) (Ok name)
   name_next mid name o t i k h = subst (λ o. Named text mid o (Ok name)) h t
@@ -366,8 +363,8 @@ module _ (text : List ℕ) (spot : Spot) (ns : List Node) (entries p m : ℕ) (r
   Patterns r = (s : Sexp) (rest : Lexed) (n : Tally) → lexed_from text spot.place ≡ stream s rest → Atoms s → Patterned text rest (read_pattern s n) r
 
   no_pattern : (mid : Lexed) (pattern : PatternAt) (o : Outcome Pattern) → Patterned text mid o (Ok pattern) → (z : Refused) → o ≡ refused z → ⊥
-  no_pattern mid pattern (refused y) t z h = clash cc
-  no_pattern mid pattern (made i k) t z h = clash cc
+  no_pattern mid pattern (refused y) t z h = cc
+  no_pattern mid pattern (made i k) t z h = cc
 
   pub arm_made : (pattern : PatternAt) (end : Spot) (now : List Node) → Patterns (Ok pattern) → OnEach text (record { place = pattern.after; used = m }) ns (encode_each encode) (read_each read) (Ok end) now
       → (x e : Sexp) → OnList text spot ns encode_branch (cons x (cons e nil)) (branch_of entries read p (two x e)) (Ok end) (set now spot.used (node (form.Branch pattern.place) p end.used))
@@ -407,7 +404,7 @@ module _ (text : List ℕ) (spot : Spot) (ns : List Node) (entries p m : ℕ) (r
     where
       go : (one_node n).nodes ≡ m → m ≡ spot.used + 1 → (o : Outcome Ident) → Keeps (one_node n) o → Named text (closed_by nil shape q rest) o (Ok name)
           → Told text rest spot ns (encode spot.used) (and_then o (λ i n. made (dup_expr p i) n)) (Ok (record { place = after; used = m })) (set ns spot.used (node (form.Dup (word_at name.place (name.after - name.place))) p m))
-      go v w (refused z) keeps t = absurd (clash cc)
+      go v w (refused z) keeps t = absurd (cc)
       go v w (made i k) keeps t =
           let g0 = t.0 in
           let g1 = t.1 in
@@ -423,7 +420,7 @@ module _ (text : List ℕ) (spot : Spot) (ns : List Node) (entries p m : ℕ) (r
       go (name_read x (one_node n)) (names x (closed_by nil shape q rest) (one_node n) E a.0))
     where
       go : (o : Outcome Ident) → Named text (closed_by nil shape q rest) o (Ok name) → Told text rest spot ns (encode spot.used) (and_then o then_dup) (Err y) now
-      go (refused z) t = absurd (clash cc)
+      go (refused z) t = absurd (cc)
       go (made i k) t = absurd (subst NotClosing t.2 more)
 
   pub dup_unnamed : (y : Refused) (now : List Node) → Names (Err y) → (x : Sexp) → OnList text spot ns encode (cons x nil) (read_form entries read p (dup_form_rule x)) (Err y) now

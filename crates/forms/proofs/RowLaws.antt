@@ -21,15 +21,12 @@ puts-++ ns i (x ∷ a) b =
     let e : i + 1 + length a ≡ i + length (x ∷ a) = omega arith in
     puts-++ (set ns i x) (i + 1) a b ∙ ap (λ j. puts (puts (set ns i x) (i + 1) a) j b) e
 
-clash : ◌≡◌ {A = ℕ} 0 1 → ⊥
-clash z = omega arith
-
 -- a closing bracket ends the list
 pub left_none : (left : Sexps) (shape : Bracket) (q : ℕ) (rest : Lexed) (shape' : Bracket) (p : ℕ) (w : List ℕ) (l : Lexed)
     → closed_by left shape q rest ≡ also (lexeme (kind.Close shape') p w) l → AllAtoms left → (left ≡ nil) × (l ≡ rest)
 left_none nil shape q rest shape' p w l e a = (refl, cc)
 left_none (cons (atom k p' w') left) shape q rest shape' p w l e a = let z : lexeme k p' w' ≡ lexeme (kind.Close shape') p w = cc in absurd (subst NoBracket (ap (λ t. t.kind) z) a.0)
-left_none (cons (list r p' ss q') left) shape q rest shape' p w l e a = absurd (let z : lexeme (kind.Open r) p' (opening r) ≡ lexeme (kind.Close shape') p w = cc in clash (let y : kind.Open r ≡ kind.Close shape' = ap (λ t. t.kind) z in cc))
+left_none (cons (list r p' ss q') left) shape q rest shape' p w l e a = absurd (let z : lexeme (kind.Open r) p' (opening r) ≡ lexeme (kind.Close shape') p w = cc in let y : kind.Open r ≡ kind.Close shape' = ap (λ t. t.kind) z in cc)
 
 -- anything else is one more part
 pub left_some : (left : Sexps) (shape : Bracket) (q : ℕ) (rest : Lexed) → NotClosing (closed_by left shape q rest) → (x : Sexp) × ((more : Sexps) × (left ≡ cons x more))
@@ -90,7 +87,7 @@ module _ {A : Type 0} (read : Sexp → Tally → Outcome A) (encoding : ℕ → 
 
       pub along_next : (part : Sexp) (more : Sexps) → s.left ≡ cons part more → (end : Spot) (then : List Node) (o : Outcome A) → read part s.tally ≡ o
           → Told text (closed_by more shape q rest) at now (encoding at.used) o (Ok end) then → Along read encoding text from ns ss shape q rest n end then
-      along_next part more e end then (refused r) h t = absurd (clash cc)
+      along_next part more e end then (refused r) h t = absurd (cc)
       along_next part more e end then (made a m) h t =
           let size = s.size in
           let a0 = t.0 in

@@ -8,9 +8,6 @@ use Rattle.grammar.specs.Reading.{Tally, Outcome, refused, made, and_then}
 use Rattle.forms.specs.declared.spot.Spot.{Spot}
 use Rattle.forms.proofs.RowLaws.{puts-++}
 
-clash : ◌≡◌ {A = ℕ} 0 1 → ⊥
-clash z = omega arith
-
 -- An entry written behind its parts lies before them.
 set_puts : {E : Type 0} (ns : List E) (i j : ℕ) (x : E) (xs : List E) → i < j → set (puts ns j xs) i x ≡ puts (set ns i x) j xs
 set_puts ns i j x [] h = refl
@@ -23,7 +20,7 @@ module _ {E : Type 0} (count : Tally → ℕ) (text : List ℕ) where
       → ToldBy count text mid from ns (f from.used) o (Ok at) now
       → ((m : Tally) → count m ≡ at.used → lexed_from text at.place ≡ mid → ToldBy count text rest at now (g at.used) (next m) r after)
       → ToldBy count text rest from ns h (and_then o (λ a m. and_then (next m) (λ b m. made (make a b) m))) r after
-  told_join mid rest from at ns now after f g h make (refused x) next r same t u = absurd (clash cc)
+  told_join mid rest from at ns now after f g h make (refused x) next r same t u = absurd (cc)
   told_join {A} {B} {C} mid rest from at ns now after f g h make (made a m) next r same t u = go (next m) r (u m (sym t.0) t.2)
     where
       go : (p : Outcome B) (r : Result Spot Refused) → ToldBy count text rest at now (g at.used) p r after → ToldBy count text rest from ns h (and_then p (λ b m. made (make a b) m)) r after
@@ -49,7 +46,7 @@ module _ {E : Type 0} (count : Tally → ℕ) (text : List ℕ) where
   pub told_before : {A : Type 0} (rest : Lexed) (from at end : Spot) (ns after : List E) (e : ℕ → A → List E) (o : Outcome A) (entry : ℕ → E)
       → at.used ≡ from.used + 1 → ToldBy count text rest at ns (e at.used) o (Ok end) after
       → ToldBy count text rest from ns (λ a. entry (from.used + 1 + length (e (from.used + 1) a)) ∷ e (from.used + 1) a) o (Ok end) (set after from.used (entry end.used))
-  told_before rest from at end ns after e (refused x) entry is t = absurd (clash cc)
+  told_before rest from at end ns after e (refused x) entry is t = absurd (cc)
   told_before rest from at end ns after e (made a m) entry is t =
       let i = from.used in
       let t0 = t.0 in
