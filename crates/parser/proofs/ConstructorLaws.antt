@@ -36,9 +36,6 @@ use Rattle.parser.specs.declared.mark.Mark.{Mark}
 use Rattle.parser.proofs.KeepLaws.{Keeps, keeps_type_list, list_counted}
 use Rattle.parser.proofs.NameLaws.{OnName, NameRead, name_made, name_read_is, name_refused, then_made, then_refused}
 
-clash : ◌≡◌ {A = ℕ} 0 1 → ⊥
-clash z = omega arith
-
 abbrev one_constructor : Tally → Tally
 one_constructor n = record { nodes = n.nodes; types = n.types; bindings = n.bindings; datatypes = n.datatypes; constructors = n.constructors + 1 }
 
@@ -91,7 +88,7 @@ module _ (text : List ℕ) (mark : Mark) (ts : List TypeNode) (cs : List Constru
           (go r.name_is (read_type_list (read_type 64) y (one_constructor n)) (types y (closed_by nil shape q rest) (one_constructor n) r.follows a.1.0 u))
         where
           go : (c : Ident) (o : Outcome TypeExprs) → ToldType text (closed_by nil shape q rest) behind_name ts (encode_types mark.types) o (Ok end) now → ToldMark alone k text rest mark ts cs (and_then o (λ us n. made (constructor_at p c us) n)) (Err z) ts' cs'
-          go c (refused z') t = absurd (clash cc)
+          go c (refused z') t = absurd (cc)
           go c (made us j) t = absurd (subst NotClosing t.2 more)
 
       pub constructor_made : (after : ℕ) (w : Word) (fields : ℕ) → Closes text end.place (Some after) → w ≡ word_at name.place (name.after - name.place)
@@ -104,7 +101,7 @@ module _ (text : List ℕ) (mark : Mark) (ts : List TypeNode) (cs : List Constru
         where
           go : (c : Ident) → w ≡ word c → fields ≡ listed y → (o : Outcome TypeExprs) → read_type_list (read_type 64) y (one_constructor n) ≡ o → Keeps (one_constructor n) o → ToldType text (closed_by nil shape q rest) behind_name ts (encode_types mark.types) o (Ok end) now
               → ToldMark alone k text rest mark ts cs (and_then o (λ us n. made (constructor_at p c us) n)) (Ok (record { place = after; types = end.used; constructors = mark.constructors + 1 })) now (set cs mark.constructors (entry_of p w k mark.types end.used fields))
-          go c is many (refused z') h keeps t = absurd (clash cc)
+          go c is many (refused z') h keeps t = absurd (cc)
           go c is many (made us j) h keeps t =
               let l = left_none nil shape q rest closes.0 closes.1.1.0 closes.1.0 (lexed_from text after) (sym t.2 ∙ closes.1.1.1.follows) tt in
               let kept = keeps.constructors in
@@ -203,7 +200,7 @@ module _ (text : List ℕ) (k entries : ℕ) (at : Mark) (ts : List TypeNode) (c
         go : (left : Sexps) (o : Outcome tree.Constructor) → ToldMark alone k text (closed_by left shape q rest) at ts cs o (Ok end) now now'
             → ((m : Tally) → lexed_from text end.place ≡ closed_by left shape q rest → m.types ≡ end.types → m.constructors ≡ end.constructors → ToldMark all k text rest end now now' (read_constructors entries left m) r ts' cs')
             → ToldMark all k text rest at ts cs (and_then o (λ c n. and_then (read_constructors entries left n) (λ xs n. made (c ∷ xs) n))) r ts' cs'
-        go left (refused z) t h = absurd (clash cc)
+        go left (refused z) t h = absurd (cc)
         go left (made c m) t h = both c m (read_constructors entries left m) r t.1 t.3 t.5 t.6 (h m t.4 (sym t.0) (sym t.2))
 
 -- In the middle of such a list: what is told of the rest is told of the whole.

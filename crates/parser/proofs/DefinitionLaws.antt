@@ -40,9 +40,6 @@ use Rattle.parser.specs.declared.mark.Mark.{Mark}
 use Rattle.parser.proofs.KeepLaws.{keeps_parameter_list}
 use Rattle.parser.proofs.NameLaws.{OnName, NameRead, name_made, name_read_is, name_refused, then_made, then_refused}
 
-clash : ◌≡◌ {A = ℕ} 0 1 → ⊥
-clash z = omega arith
-
 -- The expression that ends a definition.
 module _ (text : List ℕ) (spot : Spot) (ns : List Node) (entries : ℕ) where
   abbrev Counted : Tally → ℕ
@@ -53,7 +50,7 @@ module _ (text : List ℕ) (spot : Spot) (ns : List Node) (entries : ℕ) where
   body_made end behind ns' told closes e shape q rest n E a u = go (read_expr entries 64 e n) (told e (closed_by nil shape q rest) n E a.0 u)
     where
       go : (o : Outcome Expr) → ToldBy Counted text (closed_by nil shape q rest) spot ns (encode spot.used) o (Ok end) ns' → ToldBy Counted text rest spot ns (encode spot.used) o (Ok (record { place = behind; used = end.used })) ns'
-      go (refused x) t = absurd (clash cc)
+      go (refused x) t = absurd (cc)
       go (made x m) t =
           let l = left_none nil shape q rest closes.0 closes.1.1.0 closes.1.0 (lexed_from text behind) (sym t.2 ∙ closes.1.1.1.follows) tt in
           (t.0, t.1, l.1, t.3)
@@ -63,7 +60,7 @@ module _ (text : List ℕ) (spot : Spot) (ns : List Node) (entries : ℕ) where
   body_open end z ns' then told more e shape q rest n E a u = go (read_expr entries 64 e n) (told e (closed_by nil shape q rest) n E a.0 u)
     where
       go : (o : Outcome Expr) → ToldBy Counted text (closed_by nil shape q rest) spot ns (encode spot.used) o (Ok end) ns' → ToldBy Counted text rest spot ns (encode spot.used) o (Err z) then
-      go (refused x) t = absurd (clash cc)
+      go (refused x) t = absurd (cc)
       go (made x m) t = absurd (subst NotClosing t.2 more)
 
   pub body_refused : (z : Refused) (ns' then : List Node) → OnPart text spot ns encode (read_expr entries 64) (Err z) ns' → (e : Sexp) → OnList text spot ns encode (cons e nil) (read_expr entries 64 e) (Err z) then
@@ -149,7 +146,7 @@ module _ (text : List ℕ) (inside p entries : ℕ) (t : Tables) (ns : List Node
         (go r.name_is (w_is ∙ r.word_is) (read_expr entries 64 e (one_binding n)) (body e shape q rest (one_binding n) r.follows a.1 u.nodes))
       where
         go : (x : Ident) → w ≡ word x → (o : Outcome Expr) → ToldBy (λ n. n.nodes) text rest val_at ns (encode t.counts.nodes) o (Ok end) ns' → ToldDefinition text rest t ns (and_then o (λ y n. made (val_binding p x y) n)) (Ok end.place) t' ns'
-        go x is (refused z) h = absurd (clash cc)
+        go x is (refused z) h = absurd (cc)
         go x is (made y m) h =
             let h0 = h.0 in
             let h1 = h.1 in
@@ -216,7 +213,7 @@ module _ (text : List ℕ) (inside p entries : ℕ) (t : Tables) (ns : List Node
           last x xs (made y m) h = absurd h
 
           go : (x : Ident) (o : Outcome (List Ident)) → Keeps (one_binding n) o → ToldNames text (closed_by (cons e nil) shape q rest) list_at t.parameters o (Ok middle) ws → ToldDefinition text rest t ns (and_then o (define_body e x)) (Err z) t' ns'
-          go x (refused z') same h = absurd (clash cc)
+          go x (refused z') same h = absurd (cc)
           go x (made xs m) same h = last x xs (read_expr entries 64 e m) (body e shape q rest m h.1 a.1.1 (ap (λ n. n.nodes) same ∙ u.nodes))
 
       pub define_made : (end : Spot) (w : Word) (f : Functions) (t' : Tables) (ns' : List Node) → ((e : Sexp) → OnList text (record { place = middle.place; used = t.counts.nodes }) ns encode (cons e nil) (read_expr entries 64 e) (Ok end) ns')
@@ -230,7 +227,7 @@ module _ (text : List ℕ) (inside p entries : ℕ) (t : Tables) (ns : List Node
         where
           last : (x : Ident) → w ≡ word x → (xs : List Ident) → middle.used ≡ t.counts.parameters + length xs → ws ≡ puts t.parameters t.counts.parameters (map word xs)
               → (o : Outcome Expr) → ToldBy (λ n. n.nodes) text rest body_at ns (encode t.counts.nodes) o (Ok end) ns' → ToldDefinition text rest t ns (and_then o (λ y n. made (function_definition p x xs y) n)) (Ok end.place) t' ns'
-          last x is xs size words (refused z) h = absurd (clash cc)
+          last x is xs size words (refused z) h = absurd (cc)
           last x is xs size words (made y m) h =
               let h0 = h.0 in
               let h1 = h.1 in
@@ -250,7 +247,7 @@ module _ (text : List ℕ) (inside p entries : ℕ) (t : Tables) (ns : List Node
               )
 
           go : (x : Ident) → w ≡ word x → (o : Outcome (List Ident)) → Keeps (one_binding n) o → ToldNames text (closed_by (cons e nil) shape q rest) list_at t.parameters o (Ok middle) ws → ToldDefinition text rest t ns (and_then o (define_body e x)) (Ok end.place) t' ns'
-          go x is (refused z') same h = absurd (clash cc)
+          go x is (refused z') same h = absurd (cc)
           go x is (made xs m) same h = last x is xs h.0 h.2 (read_expr entries 64 e m) (body e shape q rest m h.1 a.1.1 (ap (λ n. n.nodes) same ∙ u.nodes))
 
 -- An annotation.
@@ -287,7 +284,7 @@ module _ (text : List ℕ) (inside p entries : ℕ) (t : Tables) (ns : List Node
           (go r.name_is (read_type 64 y n) (types y (closed_by nil shape q rest) n r.follows a.1.0 u.types))
         where
           go : (x : Ident) (o : Outcome TypeExpr) → ToldType text (closed_by nil shape q rest) type_at t.types (encode_type t.counts.types) o (Ok end) now → ToldDefinition text rest t ns (and_then o (λ u n. made (type_annotation p x u) n)) (Err z) t' ns
-          go x (refused z') h = absurd (clash cc)
+          go x (refused z') h = absurd (cc)
           go x (made y m) h = absurd (subst NotClosing h.2 more)
 
       pub annotation_made : (behind : ℕ) (w : Word) (f : Functions) (t' : Tables) → Closes text end.place (Some behind) → w ≡ word_at name.place (name.after - name.place) → f ≡ noted_in text Annotation w t.counts.definitions t.functions
@@ -299,7 +296,7 @@ module _ (text : List ℕ) (inside p entries : ℕ) (t : Tables) (ns : List Node
           (go r.name_is (w_is ∙ r.word_is) (read_type 64 y n) (types y (closed_by nil shape q rest) n r.follows a.1.0 u.types))
         where
           go : (x : Ident) → w ≡ word x → (o : Outcome TypeExpr) → ToldType text (closed_by nil shape q rest) type_at t.types (encode_type t.counts.types) o (Ok end) now → ToldDefinition text rest t ns (and_then o (λ u n. made (type_annotation p x u) n)) (Ok behind) t' ns
-          go x is (refused z') h = absurd (clash cc)
+          go x is (refused z') h = absurd (cc)
           go x is (made y m) h =
               let l = left_none nil shape q rest closes.0 closes.1.1.0 closes.1.0 (lexed_from text behind) (sym h.2 ∙ closes.1.1.1.follows) tt in
               let h0 = h.0 in
@@ -357,7 +354,7 @@ module _ (text : List ℕ) (inside p entries : ℕ) (t : Tables) (ns : List Node
           (go r.name_is (read_constructor_list entries y (one_datatype n)) (marks y (closed_by nil shape q rest) (one_datatype n) r.follows a.1.0 u.types u.constructors))
         where
           go : (x : Ident) (o : Outcome (List tree.Constructor)) → ToldMark all t.counts.definitions text (closed_by nil shape q rest) constructors_at t.types t.constructors o (Ok end) now now' → ToldDefinition text rest t ns (and_then o (λ cs n. made (datatype_definition p x cs) n)) (Err z) t' ns
-          go x (refused z') h = absurd (clash cc)
+          go x (refused z') h = absurd (cc)
           go x (made cs m) h = absurd (subst NotClosing h.4 more)
 
       pub datatype_made : (behind : ℕ) (w : Word) (t' : Tables) → Closes text end.place (Some behind) → w ≡ word_at name.place (name.after - name.place)
@@ -369,7 +366,7 @@ module _ (text : List ℕ) (inside p entries : ℕ) (t : Tables) (ns : List Node
           (go r.name_is (w_is ∙ r.word_is) (read_constructor_list entries y (one_datatype n)) (marks y (closed_by nil shape q rest) (one_datatype n) r.follows a.1.0 u.types u.constructors))
         where
           go : (x : Ident) → w ≡ word x → (o : Outcome (List tree.Constructor)) → ToldMark all t.counts.definitions text (closed_by nil shape q rest) constructors_at t.types t.constructors o (Ok end) now now' → ToldDefinition text rest t ns (and_then o (λ cs n. made (datatype_definition p x cs) n)) (Ok behind) t' ns
-          go x is (refused z') h = absurd (clash cc)
+          go x is (refused z') h = absurd (cc)
           go x is (made cs m) h =
               let l = left_none nil shape q rest closes.0 closes.1.1.0 closes.1.0 (lexed_from text behind) (sym h.4 ∙ closes.1.1.1.follows) tt in
               let types = h.1 in

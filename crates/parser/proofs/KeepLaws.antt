@@ -10,9 +10,6 @@ use Rattle.grammar.specs.Streams.{count}
 use Rattle.grammar.specs.Trees.{TypeExpr, function_type_rule, TypeExprs, no_types, and_type}
 use Rattle.parser.specs.Listing.{listed}
 
-clash : ◌≡◌ {A = ℕ} 0 1 → ⊥
-clash z = omega arith
-
 -- from one tally to the next only types were counted
 pub record Others (n m : Tally) : Type 0 where
   pub nodes : m.nodes ≡ n.nodes
@@ -84,12 +81,12 @@ module _ (read : Sexp → Tally → Outcome TypeExpr) where
   types_counted k (cons s ss) n m ts e le = go (λ o us p f few. types_counted (k + 1) ss o p us f few) (ltb k 6) refl e
     where
       wrong_last : (b : Bool) → cond b (over_limit (place s)) (wrong (place s)) ≡ made ts m → (types_length ts ≡ suc (count ss)) × (k + suc (count ss) ≤ 6)
-      wrong_last true h = absurd (clash cc)
-      wrong_last false h = absurd (clash cc)
+      wrong_last true h = absurd (cc)
+      wrong_last false h = absurd (cc)
 
       rest : k + 1 ≤ 6 → (t : TypeExpr) (o : Tally) → ((us : TypeExprs) (p : Tally) → read_types read (k + 1) ss o ≡ made us p → (types_length us ≡ count ss) × (k + 1 + count ss ≤ 6))
           → (r : Outcome TypeExprs) → read_types read (k + 1) ss o ≡ r → and_then r (λ us p. made (and_type t us) p) ≡ made ts m → (types_length ts ≡ suc (count ss)) × (k + suc (count ss) ≤ 6)
-      rest few t o more (refused x) f h = absurd (clash cc)
+      rest few t o more (refused x) f h = absurd (cc)
       rest few t o more (made us p) f h =
           let is : and_type t us ≡ ts = cc in
           let c = more us p f in
@@ -99,7 +96,7 @@ module _ (read : Sexp → Tally → Outcome TypeExpr) where
           (sym (ap types_length is) ∙ one, omega arith)
 
       first : ((o : Tally) (us : TypeExprs) (p : Tally) → read_types read (k + 1) ss o ≡ made us p → k + 1 ≤ 6 → (types_length us ≡ count ss) × (k + 1 + count ss ≤ 6)) → k + 1 ≤ 6 → (r : Outcome TypeExpr) → and_then r (λ t o. and_then (read_types read (k + 1) ss o) (λ us p. made (and_type t us) p)) ≡ made ts m → (types_length ts ≡ suc (count ss)) × (k + suc (count ss) ≤ 6)
-      first more few (refused x) h = absurd (clash cc)
+      first more few (refused x) h = absurd (cc)
       first more few (made t o) h = rest few t o (λ us p f. more o us p f few) (read_types read (k + 1) ss o) refl h
 
       go : ((o : Tally) (us : TypeExprs) (p : Tally) → read_types read (k + 1) ss o ≡ made us p → k + 1 ≤ 6 → (types_length us ≡ count ss) × (k + 1 + count ss ≤ 6)) → (b : Bool) → ltb k 6 ≡ b → cond b (and_then (read s n) (λ t o. and_then (read_types read (k + 1) ss o) (λ us p. made (and_type t us) p))) (cond (type_shaped s) (over_limit (place s)) (wrong (place s))) ≡ made ts m
@@ -108,7 +105,7 @@ module _ (read : Sexp → Tally → Outcome TypeExpr) where
       go more false f h = wrong_last (type_shaped s) h
 
   pub list_counted : (s : Sexp) (n m : Tally) (ts : TypeExprs) → read_type_list read s n ≡ made ts m → listed s ≡ types_length ts
-  list_counted (atom k p w) n m ts e = absurd (clash cc)
+  list_counted (atom k p w) n m ts e = absurd (cc)
   list_counted (list shape p ss q) n m ts e =
       let c = types_counted 0 ss n m ts e (omega arith) in
       let size = c.0 in

@@ -24,9 +24,6 @@ use Rattle.parser.specs.Defining.{definition_kind, ToldDefinition, OnParts, OnDe
 use Rattle.parser.specs.declared.kind.DefinitionKind.{DefinitionKind}
 use Rattle.parser.specs.declared.kind.DefinitionKind.TheVariants as kind
 
-clash : ◌≡◌ {A = ℕ} 0 1 → ⊥
-clash z = omega arith
-
 -- a list with its kind and its form
 pub data View : Sexps → Option DefinitionKind → DefinitionForm → Type 0 where
   is_datatype : {h x y : Sexp} → View (cons h (cons x (cons y nil))) (Some kind.Datatype) (datatype_form_rule x y)
@@ -91,7 +88,7 @@ wordy None = false
 head_behind : (text : List ℕ) (place inside n : ℕ) (h : Sexp) (es : Sexps) (shape : Bracket) (q : ℕ) (rest : Lexed) → Behind text place inside → lexed_from text place ≡ closed_by (cons h es) shape q rest
     → wordy (definition_kind (first_head (cons h es)) n) ≡ true → lexed_from text inside ≡ closed_by es shape q rest
 head_behind text place inside n (atom k p w) es shape q rest b e t = b.2 _ _ e
-head_behind text place inside n (list r p ss q') es shape q rest b e t = absurd (clash cc)
+head_behind text place inside n (list r p ss q') es shape q rest b e t = absurd (cc)
 
 -- What is told of each kind from behind the reserved word is told of the definition.
 module _ (text : List ℕ) (place entries : ℕ) (t : Tables) (ns : List Node) (b : Bracket) (w : List ℕ) (p inside : ℕ) (seen : Seen text place (token.Open b) w p inside) (survey : Survey) (surveyed_is : survey ≡ surveyed (lexed_from text inside))

@@ -22,9 +22,6 @@ use Rattle.forms.specs.declared.spot.Spot.{Spot}
 use Rattle.forms.proofs.LookLaws.{is_list}
 use Rattle.forms.proofs.RowLaws.{left_none, left_some}
 
-clash : ◌≡◌ {A = ℕ} 0 1 → ⊥
-clash z = omega arith
-
 -- One step of reading.
 pub then_refused : {A B : Type 0} (o : Outcome A) (f : A → Tally → Outcome B) (x : Refused) → o ≡ refused x → and_then o f ≡ refused x
 then_refused o f x e = ap (λ o. and_then o f) e
@@ -46,12 +43,12 @@ name_made text rest (atom kind.Name p w) n name t =
     let b = t.1 in
     let size : name.after - name.place ≡ length w = omega arith in
     record { name_is = ident p w; form_is = refl; word_is = ap (λ j. word_at j (name.after - name.place)) a ∙ ap (word_at p) size; place_is = a; follows = t.2 }
-name_made text rest (atom (kind.Open r) p w) n name t = absurd (clash cc)
-name_made text rest (atom (kind.Close r) p w) n name t = absurd (clash cc)
-name_made text rest (atom kind.Symbol p w) n name t = absurd (clash cc)
-name_made text rest (atom (kind.Integer z) p w) n name t = absurd (clash cc)
-name_made text rest (atom (kind.Keyword k) p w) n name t = absurd (clash cc)
-name_made text rest (list r p ss q) n name t = absurd (clash cc)
+name_made text rest (atom (kind.Open r) p w) n name t = absurd (cc)
+name_made text rest (atom (kind.Close r) p w) n name t = absurd (cc)
+name_made text rest (atom kind.Symbol p w) n name t = absurd (cc)
+name_made text rest (atom (kind.Integer z) p w) n name t = absurd (cc)
+name_made text rest (atom (kind.Keyword k) p w) n name t = absurd (cc)
+name_made text rest (list r p ss q) n name t = absurd (cc)
 
 pub name_read_is : (text : List ℕ) (rest : Lexed) (s : Sexp) (name : NameAt) (r : NameRead text s rest name) (n : Tally) → name_read s n ≡ made r.name_is n
 name_read_is text rest s name r n = ap (λ s. name_read s n) r.form_is

@@ -29,9 +29,6 @@ use Rattle.parser.specs.Recording.{Recorded, Answers, Lawful}
 use Rattle.parser.specs.declared.script.Script.{Script}
 use Rattle.parser.proofs.TableLaws.{puts_filled, rows_nodes, nodes_counted, tables_are}
 
-clash : ◌≡◌ {A = ℕ} 0 1 → ⊥
-clash z = omega arith
-
 -- What reading answers by its definition, it answers by the grammar.
 pub lawful : (text : List ℕ) (entries : ℕ) (r : Result Script Refused) (after : List Node) → Answers (reading text entries) text entries r after → Lawful text entries r after
 lawful text entries r after a = go (reading text entries) refl r a
@@ -85,7 +82,7 @@ module _ (text : List ℕ) (entries : ℕ) (ts : List Lexeme) (scanned : scan te
     read_made s text_is lent_is tables_is copied = go (read_definitions entries (nested ts) fresh) refl (told_all t (Ok tt) drafts told)
       where
         go : (o : Outcome tree.Script) → read_definitions entries (nested ts) fresh ≡ o → ToldDefinitions text (tables_of []) (replicate entries unused) o (Ok tt) t drafts → Answers (reading text entries) text entries (Ok s) after
-        go (refused x) e h = absurd (clash cc)
+        go (refused x) e h = absurd (cc)
         go (made ds n) e h =
             let is : reading text entries ≡ Ok ds = forms_read ∙ ap concluded e in
             let d = reads.derived text entries ds is in

@@ -13,9 +13,6 @@ pub all_or_another : {X : Type 0} (x : X) (xs : List X) (r : Bool) → MatchBool
     → (IsTrue r → xs ≡ replicate (length xs) x) × (xs ≡ replicate (length xs) x → IsTrue r)
 all_or_another x xs true h = (λ _. all_same x xs h, λ _. refl)
 all_or_another x xs false h = (
-  λ t. absurd (clash t),
+  λ t. absurd (cc),
   λ e. absurd (h.2 x (ap (λ ys. get_or ys h.0 x) e ∙ get_or-replicate (length xs) h.0 x x h.1)),
 )
-  where
-    clash : ◌≡◌ {A = Bool} false true → ⊥
-    clash z = cc

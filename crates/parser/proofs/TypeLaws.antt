@@ -33,9 +33,6 @@ use Rattle.forms.proofs.RowLaws.{left_none, left_some}
 use Rattle.forms.proofs.SurveyLaws.{survey_list}
 use Rattle.forms.proofs.ToldLaws.{told_join, told_stop, told_before, told_refused, told_map, told_spot}
 
-clash : ◌≡◌ {A = ℕ} 0 1 → ⊥
-clash z = omega arith
-
 -- the tally's count of type expressions
 abbrev counted : Tally → ℕ
 counted n = n.types
@@ -49,7 +46,7 @@ granted {A} used p m n next e h = go (ltb used 512) refl h
   where
     go : (b : Bool) → ltb used 512 ≡ b → ◌≡◌ {A = Result ℕ Refused} (cond b (Ok (used + 1)) (Err (refused_at refusal.Limit p))) (Ok m) → (m ≡ used + 1) × (count_type p n next ≡ next (one_type n))
     go true t h = (cc, (let t' : ltb n.types 512 ≡ true = ap (λ u. ltb u 512) e ∙ t in rw t' refl))
-    go false t h = absurd (clash cc)
+    go false t h = absurd (cc)
 
 -- A function type has a word at its head, and two parts behind it.
 data View : Sexps → Bool → Two → Type 0 where
@@ -90,7 +87,7 @@ view_two _ _ _ an_arrow = refl
 view_two _ _ _ no_arrow = refl
 
 view_false : (ss : Sexps) (b : Bool) (t : Two) → b ≡ false → View ss b t → t ≡ not_two
-view_false _ _ _ e an_arrow = absurd (clash cc)
+view_false _ _ _ e an_arrow = absurd (cc)
 view_false _ _ _ e no_arrow = refl
 
 -- The seventh part of a list.
@@ -166,14 +163,14 @@ list_open text spot ts read k w p inside r after seen told s rest n e a u =
 -- The closing bracket behind the last part, or none.
 told_close : {A : Type 0} (text : List ℕ) (shape : Bracket) (q : ℕ) (rest : Lexed) (spot end : Spot) (ts now : List TypeNode) (f : A → List TypeNode) (o : Outcome A) (after : ℕ) → Closes text end.place (Some after)
     → ToldType text (closed_by nil shape q rest) spot ts f o (Ok end) now → ToldType text rest spot ts f o (Ok (record { place = after; used = end.used })) now
-told_close text shape q rest spot end ts now f (refused x) after c t = absurd (clash cc)
+told_close text shape q rest spot end ts now f (refused x) after c t = absurd (cc)
 told_close text shape q rest spot end ts now f (made a n) after c t =
     let l = left_none nil shape q rest c.0 c.1.1.0 c.1.0 (lexed_from text after) (sym t.2 ∙ c.1.1.1.follows) tt in
     (t.0, t.1, l.1, t.3)
 
 told_open : {A : Type 0} (text : List ℕ) (shape : Bracket) (q : ℕ) (rest : Lexed) (spot end : Spot) (ts now : List TypeNode) (f : A → List TypeNode) (o : Outcome A) → NotClosing (lexed_from text end.place)
     → ToldType text (closed_by nil shape q rest) spot ts f o (Ok end) now → ⊥
-told_open text shape q rest spot end ts now f (refused x) more t = clash cc
+told_open text shape q rest spot end ts now f (refused x) more t = cc
 told_open text shape q rest spot end ts now f (made a n) more t = absurd (subst NotClosing t.2 more)
 
 -- Two things made one after another, as a pair first.
@@ -267,7 +264,7 @@ type_atom_law text spot ts depth s rest n e k w p after r now seen b t =
     (told_spot counted text (lexed_from text after) (record { place = p; used = spot.used }) spot ts (encode_type spot.used) (type_atom p (atom_type k p w) n) r now refl t))
 
 type_depth : (d : ℕ) (shape : Bracket) (p : ℕ) (ss : Sexps) (q : ℕ) (n : Tally) → 0 < d → read_type d (list shape p ss q) n ≡ read_arrow (read_type (d - 1)) p (arrow_of ss) n
-type_depth zero shape p ss q n h = absurd (clash (omega arith))
+type_depth zero shape p ss q n h = absurd (omega arith)
 type_depth (suc d) shape p ss q n h = let same : d ≡ suc d - 1 = omega arith in ap (λ j. read_arrow (read_type j) p (arrow_of ss) n) same
 
 module _ (text : List ℕ) (spot : Spot) (ts : List TypeNode) (k : Bracket) (w : List ℕ) (p inside : ℕ) (seen : Seen text spot.place (kind.Open k) w p inside) (depth : ℕ) where
@@ -290,7 +287,7 @@ module _ (text : List ℕ) (spot : Spot) (ts : List TypeNode) (k : Bracket) (w :
       where
         go : (shape : Bracket) (q : ℕ) (ss : Sexps) (b : Bool) (t : Two) → View ss b t → b ≡ true → lexed_from text inside ≡ closed_by ss shape q rest → AllAtoms ss
             → ToldType text rest spot ts (encode_type spot.used) (read_arrow (read_type (depth - 1)) p t n) r now
-        go shape q _ _ _ no_arrow is_b e a = absurd (clash cc)
+        go shape q _ _ _ no_arrow is_b e a = absurd (cc)
         go shape q _ _ _ (an_arrow {ps = ps} {t = t}) is_b e a =
             told_spot counted text rest (record { place = after; used = spot.used }) spot ts (encode_type spot.used) (read_arrow (read_type (depth - 1)) p (two ps t) n) r now refl
             (told ps t shape q rest n (skip.2 _ _ e) a.1 u)

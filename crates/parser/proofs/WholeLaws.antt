@@ -22,9 +22,6 @@ use Rattle.forms.proofs.LookLaws.{some_token}
 use Rattle.forms.proofs.RowLaws.{puts-++}
 use Rattle.parser.specs.Defining.{Bounded, Tallied, noted_with_all, Defined, DefinedOne, ToldDefinition, OnDefinition, ToldDefinitions, OnDefinitions, AtEnd}
 
-clash : ◌≡◌ {A = ℕ} 0 1 → ⊥
-clash z = omega arith
-
 -- What one definition counts.
 record DefinitionUsed (entries : ℕ) (n : Tally) (d : tree.Definition) (m : Tally) : Type 0 where
   used : Used n m (nodes_of d) (types_of d) (bindings_of d) (datatypes_of d) (constructors_of d)
@@ -100,7 +97,7 @@ module _ (text : List ℕ) (entries at : ℕ) (t : Tables) (ns : List Node) wher
 
   module _ (more : AtEnd text at false) where
     pub all_stop : (z : Refused) (t' : Tables) (ns' : List Node) → OnDefinition text at t ns (read_definition entries) (Err z) t' ns' → OnDefinitions text entries at t ns (Err z) t' ns'
-    all_stop z t' ns' told nil n e a u few = absurd (clash (let q : done ≡ also more.0 more.1.0 = sym e ∙ more.1.1 in cc))
+    all_stop z t' ns' told nil n e a u few = absurd (let q : done ≡ also more.0 more.1.0 = sym e ∙ more.1.1 in cc)
     all_stop z t' ns' told (cons s ss) n e a u few = go (read_definition entries s n) (told s (streams ss done) n e a.0 u)
       where
         go : (o : Outcome tree.Definition) → ToldDefinition text (streams ss done) t ns o (Err z) t' ns' → ToldDefinitions text t ns (and_then o (λ d n. and_then (read_definitions entries ss n) (λ ds n. made (d ∷ ds) n))) (Err z) t' ns'
@@ -109,7 +106,7 @@ module _ (text : List ℕ) (entries at : ℕ) (t : Tables) (ns : List Node) wher
 
     pub all_next : Bounded t → (behind : ℕ) (now : Tables) (ms : List Node) → OnDefinition text at t ns (read_definition entries) (Ok behind) now ms → (r : Result (Unit {0}) Refused) (t' : Tables) (ns' : List Node)
         → OnDefinitions text entries behind now ms r t' ns' → OnDefinitions text entries at t ns r t' ns'
-    all_next bounds behind now ms told r t' ns' others nil n e a u few = absurd (clash (let q : done ≡ also more.0 more.1.0 = sym e ∙ more.1.1 in cc))
+    all_next bounds behind now ms told r t' ns' others nil n e a u few = absurd (let q : done ≡ also more.0 more.1.0 = sym e ∙ more.1.1 in cc)
     all_next bounds behind now ms told r t' ns' others (cons s ss) n e a u few =
         go (read_definition entries s n) refl (told s (streams ss done) n e a.0 u) r others
       where
@@ -122,7 +119,7 @@ module _ (text : List ℕ) (entries at : ℕ) (t : Tables) (ns : List Node) wher
 
         go : (o : Outcome tree.Definition) → read_definition entries s n ≡ o → ToldDefinition text (streams ss done) t ns o (Ok behind) now ms → (r : Result (Unit {0}) Refused) → OnDefinitions text entries behind now ms r t' ns'
             → ToldDefinitions text t ns (and_then o (λ d n. and_then (read_definitions entries ss n) (λ ds n. made (d ∷ ds) n))) r t' ns'
-        go (refused y) f h r others = absurd (clash cc)
+        go (refused y) f h r others = absurd (cc)
         go (made d m) f h r others =
             let used = definition_used entries s n (fits_now entries n t bounds u few) d m f in
             let fits = used.fits in
