@@ -1,11 +1,12 @@
 // One pass over a text that counts the parts of every list.
-ghost use Rattle.std.specs.Prelude.{◌≡◌, ◌+◌, min, Some, slice_set};
+ghost use Rattle.std.specs.Prelude.{◌≡◌};
 ghost use Rattle.stack.specs.Items.{tops};
 ghost use Rattle.forms.specs.Surveys.{Known, added};
 
 use super::sight::{Look, look_at};
+use entries::put;
 use layout::DEPTH;
-use stack::{Full, Stack};
+use stack::Stack;
 
 // A list that is open: the place where its parts begin, and how many there were so far, where seven stands for more.
 #[derive(Clone, Copy, PartialEq, Eq)]
@@ -20,18 +21,9 @@ fn add_part(opened: &mut Stack<'_, OpenList>)
 {
     if let Some(list) = opened.top() {
         let _ = opened.replace_top(OpenList {
-            inside: list.inside,
             parts: list.parts.saturating_add(1).min(7),
+            ..list
         });
-    }
-}
-
-// The number of parts of a list that is closed.
-fn note(counts: &mut [Option<u8>; 65536], list: OpenList)
-    ensures { counts.new ≡ slice_set counts.old list.inside (Some (min 7 list.parts)) }
-{
-    if list.inside < counts.len() {
-        counts[list.inside] = Some(list.parts.min(7));
     }
 }
 
@@ -59,14 +51,14 @@ pub(crate) fn count_lists(text: &[u8], counts: &mut [Option<u8>; 65536])
                     inside: after,
                     parts: 0,
                 };
-                match opened.push(list) {
-                    Ok(()) => at = after,
-                    Err(Full) => return,
+                if opened.push(list).is_err() {
+                    return;
                 }
+                at = after;
             }
             Look::Close(_, after) => {
                 if let Some(list) = opened.pop() {
-                    note(counts, list);
+                    put(counts, list.inside, Some(list.parts.min(7)));
                 }
                 at = after;
             }

@@ -2,7 +2,7 @@
 // The source, a spot and the node list stay parameters, and no reader holds them: each loan is its own, and a contract speaks of plain values.
 // `goes` stands on each reader, in one word, for the reader behind it; the bound of a spot stays a clause too (see its type).
 // The loops over expressions, bindings and branches stay three: a part's reader as a parameter is a call through a cycle, which gets no proof.
-ghost use Rattle.std.specs.Prelude.{◌≡◌, ℕ, ◌+◌, ◌≤◌, List, length, IfOk};
+ghost use Rattle.std.specs.Prelude.{◌≡◌, ℕ, ◌+◌, ◌≤◌, List, length, slice_set, IfOk};
 ghost use Rattle.forms.specs.Drafts.{encode};
 ghost use Rattle.grammar.specs.Forms.{form_named, let_form_rule, case_form_rule, dup_form_rule, two};
 ghost use Rattle.forms.specs.Parts.{under, encode_binding, encode_branch, OnPart, OnList, OnEach, read_row, reading_at};
@@ -20,6 +20,7 @@ use super::patterns::pattern_at;
 use super::sight::{Look, behind, closing_at, end_at, look_at, opening_at};
 use super::source::Source;
 use super::spot::Spot;
+use entries::put;
 use layout::{Node, NodeForm};
 use text::{Refused, TokenKind};
 
@@ -35,9 +36,7 @@ fn single(
     ensures few { IfOk result (λ end. (end.place ≡ after) × (end.used ≤ 4096)) }
     ensures told { (text w : List ℕ) (n : Tally) → Spelt kind w → after ≡ place + length w → n.nodes ≡ used → Told text (lexed_from text after) (record { place = place; used = used }) nodes.old (encode used) (expr_atom (length nodes.old) place (atom_expr (length nodes.old) kind place w) n) result nodes.new }
 {
-    let Some(form) = leaf(kind, place, after - place as usize) else {
-        return Err(wrong(place as usize));
-    };
+    let form = leaf(kind, place, after - place as usize).ok_or(wrong(place as usize))?;
     let past = claim(used, nodes.len(), place)?;
     nodes[used] = Node {
         form,
@@ -78,6 +77,22 @@ pub fn expression(
     }
 }
 
+// The node of a part that ends at a spot, written before what lies in it.
+fn close(nodes: &mut [Node], spot: Spot, form: NodeForm, place: u16, end: Spot)
+    requires { end.used ≤ 4096 }
+    ensures { nodes.new ≡ slice_set nodes.old spot.used (record { form = form; place = place; past = end.used }) }
+{
+    put(
+        nodes,
+        spot.used,
+        Node {
+            form,
+            place,
+            past: end.used as u16,
+        },
+    );
+}
+
 // The list that begins at a place, by its form: from behind its bracket on.
 #[cycle(expression)]
 fn list(
@@ -94,6 +109,7 @@ fn list(
         place: behind(source.text, spot.place),
         ..spot
     };
+    // A closed enum, each case its own rule.
     match form_of(source.survey(spot.place)).ok_or(wrong(place as usize))? {
         FormKind::If => row(source, place, NodeForm::If, inside, nodes, depth),
         FormKind::Begin => row(source, place, NodeForm::Begin, inside, nodes, depth),
@@ -127,11 +143,7 @@ fn row(
         nodes,
         depth,
     )?;
-    nodes[spot.used] = Node {
-        form,
-        place,
-        past: end.used as u16,
-    };
+    close(nodes, spot, form, place, end);
     Ok(end)
 }
 
@@ -177,11 +189,7 @@ fn let_form(
     };
     let middle = bindings(source, inside, nodes, depth)?;
     let end = expressions(source, middle, nodes, depth)?;
-    nodes[spot.used] = Node {
-        form: NodeForm::Let,
-        place,
-        past: end.used as u16,
-    };
+    close(nodes, spot, NodeForm::Let, place, end);
     Ok(end)
 }
 
@@ -235,11 +243,7 @@ fn bound(
         used: first,
     };
     let end = expressions(source, inside, nodes, depth)?;
-    nodes[spot.used] = Node {
-        form: NodeForm::Binding(name.word()),
-        place,
-        past: end.used as u16,
-    };
+    close(nodes, spot, NodeForm::Binding(name.word()), place, end);
     Ok(end)
 }
 
@@ -266,11 +270,7 @@ fn case_form(
         depth,
     )?;
     let end = branches(source, middle, nodes, depth)?;
-    nodes[spot.used] = Node {
-        form: NodeForm::Case,
-        place,
-        past: end.used as u16,
-    };
+    close(nodes, spot, NodeForm::Case, place, end);
     Ok(end)
 }
 
@@ -324,11 +324,13 @@ fn arm(
         used: first,
     };
     let end = expressions(source, inside, nodes, depth)?;
-    nodes[spot.used] = Node {
-        form: NodeForm::Branch(pattern.place as u16),
+    close(
+        nodes,
+        spot,
+        NodeForm::Branch(pattern.place as u16),
         place,
-        past: end.used as u16,
-    };
+        end,
+    );
     Ok(end)
 }
 

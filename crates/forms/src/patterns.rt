@@ -21,14 +21,14 @@ pub struct PatternAt {
 fn is_wildcard(kind: TokenKind) -> bool
     ensures { result ≡ wildcard_kind kind }
 {
-    matches!(kind, TokenKind::Keyword(Keyword::Wildcard))
+    kind == TokenKind::Keyword(Keyword::Wildcard)
 }
 
 // Whether a token can stand for one field: a name, or a wildcard.
 fn is_part(kind: TokenKind) -> bool
     ensures { result ≡ part_kind kind }
 {
-    matches!(kind, TokenKind::Name) || is_wildcard(kind)
+    kind == TokenKind::Name || is_wildcard(kind)
 }
 
 // The parts for the fields, up to the bracket that closes the pattern: the place behind it.

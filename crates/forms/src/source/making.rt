@@ -29,7 +29,7 @@ impl<'t> Source<'t> {
     fn parts_at(&self, place: usize) -> usize
         ensures { result ≡ parts_of (lexed_from self.now.text.now place) }
     {
-        match self.counts.get(place).copied().unwrap_or(None) {
+        match self.counts.get(place).copied().flatten() {
             Some(parts) => parts as usize,
             None => count_parts(self.text, place),
         }

@@ -1,5 +1,8 @@
-use Rattle.std.proofs.Common.{◌∷◌, ap, sym, ◌∙◌, subst}
+use Rattle.std.proofs.Common.{◌≡◌, ◌∷◌, false, Result, Ok, Err, ap, sym, ◌∙◌, subst}
+use Rattle.std.proofs.Math.Nat.{min_comm}
+use Rattle.std.specs.Result.{is_err}
 use Rattle.stack.specs.Items.{tops}
+use Rattle.stack.specs.declared.full.Full.{Full}
 use Rattle.text.specs.Tokens.{lexed_from}
 use Rattle.forms.specs.Surveys.{Known}
 use Rattle.forms.specs.declared.counting.OpenList.{OpenList}
@@ -17,15 +20,20 @@ tokens-preserved-in-Atom c =
           (pending_atom text c.in-Atom.field-0 c.in-Atom.field-1 sees.0 (lexed_from text c.in-Atom.after) lists sees.2 (subst (λ l. Pending text l 0 lists) sees.1.follows inv.1)),
     )
 
-pub tokens-preserved-in-Ok : goal.tokens-preserved-in-Ok
-tokens-preserved-in-Ok c =
+-- what a push that is no error did
+pushed : {A : Type 0} (B : Type 0) (r : Result (Unit {0}) Full) → false ≡ is_err r → (elim r as (λ _. Type 0) [ Ok _ ↦ A | Err _ ↦ B ]) → A
+pushed B (Ok x) e h = h
+pushed B (Err x) e h = absurd (cc)
+
+pub tokens-preserved-in-Open : goal.tokens-preserved-in-Open
+tokens-preserved-in-Open c =
     let text = c.args.text.now in
     let sees = c.in-Open.ensures in
     let inv = c.tokens.invariant in
     let lists = tops c.tokens.opened in
     let list : OpenList = record { inside = c.in-Open.after; parts = 0 } in (
       inv.0,
-      subst (Pending text (lexed_from text c.in-Open.after) 0) (sym (c.in-Ok.ensures.tops ∙ ap (λ es. list ∷ es) c.add_part-in-Open.ensures))
+      subst (Pending text (lexed_from text c.in-Open.after) 0) (sym (pushed _ c.push.result c.if-is_err.ensures.value c.push.ensures.tops ∙ ap (λ es. list ∷ es) c.add_part-in-Open.ensures))
           (pending_open text sees.0 c.in-Open.field-0 sees.1.0 c.in-Open.after lists (subst (λ l. Pending text l 0 lists) sees.1.1.follows inv.1)),
     )
 
@@ -37,6 +45,6 @@ tokens-preserved-in-Some c =
     let lists = tops c.pop.new.self in
     let whole = subst (Pending text (lexed_from text c.tokens.at) 0) c.in-Some.ensures.tops inv.1 in
     let closed = pending_close text sees.0 c.in-Close.field-0 sees.1.0 (lexed_from text c.in-Close.after) c.in-Some.list lists (subst (λ l. Pending text l 0 (c.in-Some.list ∷ lists)) sees.1.1.follows whole) in (
-      subst (Known text) (sym c.note.ensures) (known_set text c.tokens.counts c.in-Some.list.inside _ closed.0 inv.0),
+      subst (Known text) (sym c.put.ensures.written) (known_set text c.tokens.counts c.in-Some.list.inside _ (c.min.ensures ∙ min_comm c.in-Some.list.parts 7 ∙ closed.0) inv.0),
       closed.1,
     )

@@ -18,7 +18,7 @@ row-returns-in_err-end-clause-told t c =
 
 pub row-returns-clause-told : goal.row-returns-clause-told
 row-returns-clause-told t c =
-    row_made c.args.source.now.text.now c.args.spot c.args.nodes.now (length c.args.nodes.now) c.args.place c.args.form (read_expr (length c.args.nodes.now) c.args.depth) c.in_ok-first.first c.in_ok-end.end c.expressions.new.nodes (sym c.in_ok-first.ensures) c.in_ok-end.ensures.told
+    rw c.close.ensures (row_made c.args.source.now.text.now c.args.spot c.args.nodes.now (length c.args.nodes.now) c.args.place c.args.form (read_expr (length c.args.nodes.now) c.args.depth) c.in_ok-first.first c.in_ok-end.end c.expressions.new.nodes (sym c.in_ok-first.ensures) c.in_ok-end.ensures.told)
 
 pub expressions-parts-init : goal.expressions-parts-init
 expressions-parts-init t c =
@@ -145,7 +145,7 @@ bound-returns-clause-told t c =
     let head = c.in_ok-name.ensures in
     let within = head.goes.1 in
     let short = c.args.source.now.short in
-    rw (c.word.ensures head.goes.2 head.goes.3 (omega arith)) (bound_made c.args.source.now.text.now c.args.spot c.args.nodes.now (length c.args.nodes.now) c.args.place c.in_ok-first.first (read_expr (length c.args.nodes.now) c.args.depth) (sym c.in_ok-first.ensures) c.in_ok-name.name c.in_ok-end.end c.expressions.new.nodes head.told c.in_ok-end.ensures.told)
+    rw (c.close.ensures, c.word.ensures head.goes.2 head.goes.3 (omega arith)) (bound_made c.args.source.now.text.now c.args.spot c.args.nodes.now (length c.args.nodes.now) c.args.place c.in_ok-first.first (read_expr (length c.args.nodes.now) c.args.depth) (sym c.in_ok-first.ensures) c.in_ok-name.name c.in_ok-end.end c.expressions.new.nodes head.told c.in_ok-end.ensures.told)
 
 pub arm-returns-in_err-pattern-clause-told : goal.arm-returns-in_err-pattern-clause-told
 arm-returns-in_err-pattern-clause-told t c =
@@ -159,7 +159,7 @@ arm-returns-in_err-end-clause-told t c =
 
 pub arm-returns-clause-told : goal.arm-returns-clause-told
 arm-returns-clause-told t c =
-    arm_made c.args.source.now.text.now c.args.spot c.args.nodes.now (length c.args.nodes.now) c.args.place c.in_ok-first.first (read_expr (length c.args.nodes.now) c.args.depth) (sym c.in_ok-first.ensures) c.in_ok-pattern.pattern c.in_ok-end.end c.expressions.new.nodes c.in_ok-pattern.ensures.told c.in_ok-end.ensures.told
+    rw c.close.ensures (arm_made c.args.source.now.text.now c.args.spot c.args.nodes.now (length c.args.nodes.now) c.args.place c.in_ok-first.first (read_expr (length c.args.nodes.now) c.args.depth) (sym c.in_ok-first.ensures) c.in_ok-pattern.pattern c.in_ok-end.end c.expressions.new.nodes c.in_ok-pattern.ensures.told c.in_ok-end.ensures.told)
 
 pub case_form-returns-in_err-middle-clause-told : goal.case_form-returns-in_err-middle-clause-told
 case_form-returns-in_err-middle-clause-told t c =
@@ -176,8 +176,8 @@ case_form-returns-in_err-end-clause-told t c =
 pub case_form-returns-clause-told : goal.case_form-returns-clause-told
 case_form-returns-clause-told t c =
     let long : length c.expression.new.nodes ≡ length c.args.nodes.now = c.expression.auto.nodes in
-    case_made c.args.source.now.text.now c.args.spot c.args.nodes.now (length c.args.nodes.now) c.args.place c.in_ok-first.first (read_expr (length c.args.nodes.now) c.args.depth) (sym c.in_ok-first.ensures) c.in_ok-middle.middle c.in_ok-end.end c.expression.new.nodes c.branches.new.nodes c.in_ok-middle.ensures.told
-    (subst (λ k. OnEach c.args.source.now.text.now c.in_ok-middle.middle c.expression.new.nodes (encode_each encode_branch) (read_each (read_branch k (read_expr k c.args.depth))) (Ok c.in_ok-end.end) c.branches.new.nodes) long c.in_ok-end.ensures.told)
+    rw c.close.ensures (case_made c.args.source.now.text.now c.args.spot c.args.nodes.now (length c.args.nodes.now) c.args.place c.in_ok-first.first (read_expr (length c.args.nodes.now) c.args.depth) (sym c.in_ok-first.ensures) c.in_ok-middle.middle c.in_ok-end.end c.expression.new.nodes c.branches.new.nodes c.in_ok-middle.ensures.told
+    (subst (λ k. OnEach c.args.source.now.text.now c.in_ok-middle.middle c.expression.new.nodes (encode_each encode_branch) (read_each (read_branch k (read_expr k c.args.depth))) (Ok c.in_ok-end.end) c.branches.new.nodes) long c.in_ok-end.ensures.told))
 
 pub let_form-returns-in_err-middle-clause-told : goal.let_form-returns-in_err-middle-clause-told
 let_form-returns-in_err-middle-clause-told t c =
@@ -197,8 +197,8 @@ pub let_form-returns-clause-told : goal.let_form-returns-clause-told
 let_form-returns-clause-told t c =
     let sees = c.in_ok-opened.ensures in
     let long : length c.bindings.new.nodes ≡ length c.args.nodes.now = c.bindings.auto.nodes in
-    let_made c.args.source.now.text.now c.args.spot c.args.nodes.now (length c.args.nodes.now) c.args.place c.in_ok-first.first (read_expr (length c.args.nodes.now) c.args.depth) (sym c.in_ok-first.ensures) sees.0 sees.1.0 _ c.in_ok-opened.opened.inside sees.1.1 c.in_ok-middle.middle c.in_ok-end.end c.bindings.new.nodes c.expressions.new.nodes c.in_ok-middle.ensures.told
-    (subst (λ k. OnEach c.args.source.now.text.now c.in_ok-middle.middle c.bindings.new.nodes (encode_each encode) (read_each (read_expr k c.args.depth)) (Ok c.in_ok-end.end) c.expressions.new.nodes) long c.in_ok-end.ensures.told)
+    rw c.close.ensures (let_made c.args.source.now.text.now c.args.spot c.args.nodes.now (length c.args.nodes.now) c.args.place c.in_ok-first.first (read_expr (length c.args.nodes.now) c.args.depth) (sym c.in_ok-first.ensures) sees.0 sees.1.0 _ c.in_ok-opened.opened.inside sees.1.1 c.in_ok-middle.middle c.in_ok-end.end c.bindings.new.nodes c.expressions.new.nodes c.in_ok-middle.ensures.told
+    (subst (λ k. OnEach c.args.source.now.text.now c.in_ok-middle.middle c.bindings.new.nodes (encode_each encode) (read_each (read_expr k c.args.depth)) (Ok c.in_ok-end.end) c.expressions.new.nodes) long c.in_ok-end.ensures.told))
 
 pub list-returns-in-If-clause-told : goal.list-returns-in-If-clause-told
 list-returns-in-If-clause-told t c =
