@@ -242,6 +242,7 @@ fn definition(
     let opened = opening_at(source.text, place)?;
     let at = opened.place as u16;
     let first = behind(source.text, opened.inside);
+    // A closed enum, each case its own rule.
     match definition_of(source.survey(opened.inside)).ok_or(wrong(opened.place))? {
         DefinitionKind::Datatype => datatype_definition(source, at, first, tables),
         DefinitionKind::Annotation => type_annotation(source, at, first, tables),

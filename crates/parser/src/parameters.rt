@@ -16,7 +16,7 @@ fn parameters(source: &Source, spot: Spot, words: &mut [Word; 1536]) -> Result<S
     ensures goes { GoesNames source.now.text.now spot result }
     ensures told { (entries : ℕ) → OnNames source.now.text.now spot words.old (read_parameters entries 0) result words.new }
 {
-    // Tokens are followed; the number of the entry is a part of the spot.
+    // Tokens are followed, and no index: the spot is where the last one ended, with the number of the entry to write.
     let most = spot.used + PARAMETERS;
     let mut at = spot;
     'parts: loop {

@@ -17,7 +17,7 @@ use forms::{
 use layout::{TypeForm, TypeNode};
 use text::{Keyword, Refused, TokenKind};
 
-// The most type expressions of a script.
+// The most type expressions of a script. It is the limit of this table alone; globals' table has the same size.
 const TYPES: usize = 512;
 
 // The most types in a list of parameters or fields.
@@ -93,9 +93,7 @@ fn single_type(
     ensures few { IfOk result (λ end. (end.place ≡ after) × (used < end.used) × (end.used ≤ 512)) }
     ensures told { (text w : List ℕ) (n : Tally) → Spelt kind w → after ≡ place + length w → n.types ≡ used → ToldType text (lexed_from text after) (record { place = place; used = used }) types.old (encode_type used) (type_atom place (atom_type kind place w) n) result types.new }
 {
-    let Some(form) = type_leaf(kind, after - place as usize) else {
-        return Err(wrong(place as usize));
-    };
+    let form = type_leaf(kind, after - place as usize).ok_or(wrong(place as usize))?;
     let past = claim_type(used, place)?;
     types[used] = TypeNode {
         form,
