@@ -24,6 +24,22 @@ use entries::put;
 use layout::{Node, NodeForm};
 use text::{Refused, TokenKind};
 
+// The node of a part, by its number: the part ends at a spot.
+fn close(nodes: &mut [Node], used: usize, form: NodeForm, place: u16, end: Spot)
+    requires { end.used ≤ 4096 }
+    ensures { nodes.new ≡ slice_set nodes.old used (record { form = form; place = place; past = end.used }) }
+{
+    put(
+        nodes,
+        used,
+        Node {
+            form,
+            place,
+            past: end.used as u16,
+        },
+    );
+}
+
 // A token that is an expression by itself, at a place, with the place behind it.
 fn single(
     kind: TokenKind,
@@ -38,15 +54,12 @@ fn single(
 {
     let form = leaf(kind, place, after - place as usize).ok_or(wrong(place as usize))?;
     let past = claim(used, nodes.len(), place)?;
-    nodes[used] = Node {
-        form,
-        place,
-        past: past as u16,
-    };
-    Ok(Spot {
+    let end = Spot {
         place: after,
         used: past,
-    })
+    };
+    close(nodes, used, form, place, end);
+    Ok(end)
 }
 
 // The expression at a spot, with at most so many brackets nested in it.
@@ -75,22 +88,6 @@ pub fn expression(
         Look::Close(at, _) => Err(wrong(at)),
         Look::End => Err(wrong(spot.place)),
     }
-}
-
-// The node of a part that ends at a spot, written before what lies in it.
-fn close(nodes: &mut [Node], spot: Spot, form: NodeForm, place: u16, end: Spot)
-    requires { end.used ≤ 4096 }
-    ensures { nodes.new ≡ slice_set nodes.old spot.used (record { form = form; place = place; past = end.used }) }
-{
-    put(
-        nodes,
-        spot.used,
-        Node {
-            form,
-            place,
-            past: end.used as u16,
-        },
-    );
 }
 
 // The list that begins at a place, by its form: from behind its bracket on.
@@ -143,7 +140,7 @@ fn row(
         nodes,
         depth,
     )?;
-    close(nodes, spot, form, place, end);
+    close(nodes, spot.used, form, place, end);
     Ok(end)
 }
 
@@ -189,7 +186,7 @@ fn let_form(
     };
     let middle = bindings(source, inside, nodes, depth)?;
     let end = expressions(source, middle, nodes, depth)?;
-    close(nodes, spot, NodeForm::Let, place, end);
+    close(nodes, spot.used, NodeForm::Let, place, end);
     Ok(end)
 }
 
@@ -243,7 +240,7 @@ fn bound(
         used: first,
     };
     let end = expressions(source, inside, nodes, depth)?;
-    close(nodes, spot, NodeForm::Binding(name.word()), place, end);
+    close(nodes, spot.used, NodeForm::Binding(name.word()), place, end);
     Ok(end)
 }
 
@@ -270,7 +267,7 @@ fn case_form(
         depth,
     )?;
     let end = branches(source, middle, nodes, depth)?;
-    close(nodes, spot, NodeForm::Case, place, end);
+    close(nodes, spot.used, NodeForm::Case, place, end);
     Ok(end)
 }
 
@@ -326,7 +323,7 @@ fn arm(
     let end = expressions(source, inside, nodes, depth)?;
     close(
         nodes,
-        spot,
+        spot.used,
         NodeForm::Branch(pattern.place as u16),
         place,
         end,
@@ -342,13 +339,10 @@ fn dup_form(source: &Source, place: u16, spot: Spot, nodes: &mut [Node]) -> Resu
     let past = claim(spot.used, nodes.len(), place)?;
     let name = name_at(source.text, spot.place)?;
     let after = end_at(source.text, name.after)?;
-    nodes[spot.used] = Node {
-        form: NodeForm::Dup(name.word()),
-        place,
-        past: past as u16,
-    };
-    Ok(Spot {
+    let end = Spot {
         place: after,
         used: past,
-    })
+    };
+    close(nodes, spot.used, NodeForm::Dup(name.word()), place, end);
+    Ok(end)
 }

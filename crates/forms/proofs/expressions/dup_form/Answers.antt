@@ -20,4 +20,4 @@ returns-clause-told c =
     let name = c.in_ok-name.ensures in
     let within = name.goes.1 in
     let short = c.args.source.now.short in
-    rw (c.word.ensures name.goes.2 name.goes.3 (omega arith)) (λ depth. dup_made c.args.source.now.text.now c.args.spot c.args.nodes.now (length c.args.nodes.now) c.args.place c.in_ok-past.past (read_expr (length c.args.nodes.now) depth) (sym c.in_ok-past.ensures) c.in_ok-name.name c.in_ok-after.after name.told c.in_ok-after.ensures)
+    rw (c.close.ensures, c.word.ensures name.goes.2 name.goes.3 (omega arith)) (λ depth. dup_made c.args.source.now.text.now c.args.spot c.args.nodes.now (length c.args.nodes.now) c.args.place c.in_ok-past.past (read_expr (length c.args.nodes.now) depth) (sym c.in_ok-past.ensures) c.in_ok-name.name c.in_ok-after.after name.told c.in_ok-after.ensures)
