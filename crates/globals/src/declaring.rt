@@ -1,5 +1,5 @@
 // Names are declared one by one, in text order; a name that was declared before in the same tally is refused.
-ghost use Rattle.std.specs.Prelude.{◌≡◌, ℕ, ◌+◌, ◌<◌, ◌≤◌, List, reverse, ◌++◌, length, IfOk, Some, slice_index_or, ◌∷◌, []};
+ghost use Rattle.std.specs.Prelude.{◌≡◌, ℕ, ◌+◌, ◌<◌, ◌≤◌, List, reverse, ◌++◌, length, IfOk, Some, slice_index_or, slice_set, ◌∷◌, []};
 ghost use Rattle.globals.specs.Lying.{VariantLies, Laid};
 ghost use Rattle.globals.specs.Tallies.{Tally, no_tally, tallied_all, seen_bound, seen_annotated, seen_datatypes, also_bound, also_annotated, also_datatype, also_variants, meaning_of, Next, Declared, Holds, told};
 ghost use Rattle.grammar.specs.Trees.{Ident, TypeExpr, Constructor, Script};
@@ -47,20 +47,36 @@ fn is_taken(index: &Index, text: &[u8], name: &[u8]) -> bool
     is_among(index, text, name) || is_basis(name)
 }
 
+// A name more in an index, with what goes with it in the array beside it; a name that the index or the basis has is refused.
+fn tally<T: Copy>(
+    index: &mut Index,
+    values: &mut [T],
+    text: &[u8],
+    name: Word,
+    value: T,
+) -> Result<(), Refused>
+    ensures told { (x : Ident) (next : Verdict) → IsIndex text.now index.old → Spells text.now name x → once x (reverse (names_in text.now index.old) ++ basis_names) next ≡ told result next }
+    ensures index { IfOk result (λ _. IsIndex text.now index.old → IsIndex text.now index.new) }
+    ensures names { IfOk result (λ _. IsIndex text.now index.old → length (names_in text.now index.old) < 512 → names_in text.now index.new ≡ names_in text.now index.old ++ part_of text.now name ∷ []) }
+    ensures values { IfOk result (λ _. IsIndex text.now index.old → values.new ≡ slice_set values.old (length (names_in text.now index.old)) value) }
+{
+    if is_taken(index, text, part(text, name)) {
+        return Err(refused(Refusal::Repeated, name.place));
+    }
+    let n = index.count();
+    put(values, n, value);
+    index.add(text, name);
+    Ok(())
+}
+
 impl Declarations {
     // A bound name: of a constructor, a define or a val.
     fn bind(&mut self, text: &[u8], name: Word, meaning: Global) -> Result<(), Refused>
         ensures told { (t : Tally) (x : Ident) (next : Verdict) → Holds text.now self.old t → Spells text.now name x → once x (seen_bound t) next ≡ told result next }
         ensures holds { (t : Tally) (x : Ident) → Holds text.now self.old t → Spells text.now name x → length t.bound < 512 → IfOk result (λ _. Holds text.now self.new (also_bound x (meaning_of (Some meaning)) t)) }
     {
-        let bytes = part(text, name);
-        if is_taken(&self.bound, text, bytes) {
-            return Err(refused(Refusal::Repeated, name.place));
-        }
-        let n = self.bound.count();
-        put(&mut self.meanings, n, Some(meaning));
-        self.bound.add(text, name);
-        Ok(())
+        let meaning = Some(meaning);
+        tally(&mut self.bound, &mut self.meanings, text, name, meaning)
     }
 
     // An annotation, with the type node of its type.
@@ -68,14 +84,7 @@ impl Declarations {
         ensures told { (t : Tally) (x : Ident) (next : Verdict) → Holds text.now self.old t → Spells text.now name x → once x (seen_annotated t) next ≡ told result next }
         ensures holds { (t : Tally) (x : Ident) (e : TypeExpr) → Holds text.now self.old t → Spells text.now name x → length t.annotations < 512 → IfOk result (λ _. Holds text.now self.new (also_annotated x e root t)) }
     {
-        let bytes = part(text, name);
-        if is_taken(&self.annotations, text, bytes) {
-            return Err(refused(Refusal::Repeated, name.place));
-        }
-        let n = self.annotations.count();
-        put(&mut self.roots, n, root);
-        self.annotations.add(text, name);
-        Ok(())
+        tally(&mut self.annotations, &mut self.roots, text, name, root)
     }
 
     // A datatype's name.
@@ -118,6 +127,7 @@ impl Declarations {
         ensures told { (t : Tally) (k : ℕ) (cs : List Constructor) (next : List Name → Verdict) → Holds parsed.now.text.now self.old t → Next parsed.now.text.now parsed.now.tables.now t first past k cs → once_variants cs (seen_bound t) next ≡ told result (next (seen_bound (also_variants datatype first k cs t))) }
         ensures holds { (t : Tally) (k : ℕ) (cs : List Constructor) → Holds parsed.now.text.now self.old t → Next parsed.now.text.now parsed.now.tables.now t first past k cs → IfOk result (λ _. Holds parsed.now.text.now self.new (also_variants datatype first k cs t)) }
     {
+        // By number: it is the constructor's, in the meanings and the variants.
         'each: for i in first..past {
             self.constructor(parsed, datatype, i)?;
         }
@@ -154,7 +164,7 @@ impl Declarations {
         Ok(())
     }
 
-    // What one definition declares.
+    // What one definition declares. A closed enum, each case its own rule.
     fn declare(&mut self, parsed: &Parsed<'_>, definition: Definition) -> Result<(), Refused>
         ensures { Declared parsed.now.text.now parsed.now.tables.now definition self.old result self.new }
     {

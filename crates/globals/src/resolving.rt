@@ -38,7 +38,7 @@ fn parts_of(tables: &Tables, k: u16) -> Parts
     let past = type_at(tables, k).past as usize;
     let mut at = k.saturating_add(1);
     let mut count: u16 = 0;
-    // A walk from part to part: its last place and its count are both wanted, and an iterator would give one of them.
+    // A walk from part to part. A fold is no plainer: its state would be the last place and the count, and its end a place to look for.
     'parts: loop {
         let next = after(tables, at);
         if next >= past {

@@ -57,6 +57,7 @@ impl Globals {
     pub fn function_type(&self, n: u16) -> ValueType
         ensures { (text : List ℕ) (script : Script) (w : Name) → Known text self.now script → global_of (program script) w ≡ means.function n → FunctionIs script self.now.rows.rows n result }
     {
+        // By map_or_else both arms would be closures, the second one first: no plainer.
         match Basis::try_from(n as u32) {
             Ok(basis) => basis_type(basis),
             Err(_) => self.define_type((n as usize).saturating_sub(FIRST_DEFINE as usize)),
