@@ -1,4 +1,5 @@
 // Names that are bound.
+// `grown` is a clause of each row: what a call leaves as it was is no fact of one value.
 ghost use Rattle.std.specs.Prelude.{◌≡◌, slice_index_or};
 ghost use Rattle.naming.specs.Binding.{OnName, OnParts, OnParameters, IsFresh};
 ghost use Rattle.naming.specs.Judges.{desk, Grown};

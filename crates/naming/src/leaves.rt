@@ -143,6 +143,7 @@ pub fn dup(
 {
     let node = node_at(world.nodes, i);
     let name = part(world.text, word);
+    // Tried: by ok_or_else the proof didn't close.
     let Some(k) = find(world.text, locals, scope.depth, name) else {
         return Err(no_dup(world, node.place, word, name));
     };

@@ -1,4 +1,5 @@
 // The pattern of a branch.
+// `grown` is a clause of each row: what a call leaves as it was is no fact of one value.
 ghost use Rattle.std.specs.Prelude.{◌≡◌, ◌≤◌, ◌&&◌, List, length, ◌==◌};
 ghost use Rattle.naming.specs.Binding.{OnHead, OnConstructor, OnPattern};
 ghost use Rattle.naming.specs.Judges.{desk, Grown};
