@@ -39,10 +39,10 @@ pub fn applied_last(slots: &Stack<'_, Slot>, basis: Basis, held: Held, last: Val
     };
     match held {
         Held::None => apply_one(basis, second),
-        Held::One => match newest(slots) {
-            Some(first) => apply_two(basis, first, second),
-            None => Applied::Mismatch,
-        },
+        Held::One => newest(slots).map_or(
+            Applied::Mismatch,
+            |first| apply_two(basis, first, second),
+        ),
         Held::More => Applied::Mismatch,
     }
 }
