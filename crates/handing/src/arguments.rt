@@ -72,7 +72,7 @@ pub fn hand_argument(
         → Printed P Z m₀ (st (f ∷ K) env (has_finished t) a) out.old (hand P Z f K env a t) result machine.new m out.new }
 {
     if machine.slots.len() >= machine.slots.room() {
-        return Err(Halt::Failed(FaultKind::StackFull, None));
+        return Err(Halt::from(FaultKind::StackFull));
     }
     let past = code_at(machine.script, at as usize).past;
     if next < past {

@@ -21,13 +21,14 @@ unfolding hand
 returns-then-len-room-clause-law c = λ P Z m₀ m f K env a t H speaks.
     let r = c.args.machine.now in
     let out = c.args.out.now in
-    on_argument (HandedOut P Z m₀ K env a t r m out (Err (Failed StackFull None)) r m out) (waiting_for H)
+    subst (λ h. Printed P Z m₀ (st (f ∷ K) env (finished t) a) out (hand P Z f K env a t) (Err h) r m out) (sym c.from.ensures)
+    (on_argument (HandedOut P Z m₀ K env a t r m out (Err (Failed StackFull None)) r m out) (waiting_for H)
     (λ p k es here h A w M.
     let R = in_hand H.value M in
     elim (no_entries P Z K env a 1 (proceed P Z p (calls c.args.function) (k + 1) es K (argument t ∷ env) a) (omega (arith, slots_count R, R.slots_room, c.if-len-room.true, c.len.ensures.tops))) [
       | inl e ↦ by_printing e printed_any
       | inr e ↦ by_printing e (printed_not refl M)
-    ]) H.mirrored
+    ]) H.mirrored)
 
 pub returns-then-next-past-clause-law : goal.returns-then-next-past-clause-law
 unfolding hand proceed
