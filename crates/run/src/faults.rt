@@ -18,10 +18,10 @@ pub fn fault_at(machine: &Machine<'_>, kind: FaultKind, function: Option<Basis>)
     ensures { (P : Program) (Z : Sizes) (m₀ m : Cells) (s : State) → Mirrors P Z m₀ s machine.now m → result ≡ fault_there P (step_place (main_of P) s) kind function }
 {
     let place = next_place(machine);
-    let named = match function {
-        Some(basis) => Named::Basis(basis),
-        None => Named::Text(owner_at(machine.script, place)),
-    };
+    let named = function.map_or_else(
+        || Named::Text(owner_at(machine.script, place)),
+        Named::Basis,
+    );
     Fault {
         kind,
         place,
