@@ -6,6 +6,7 @@ use crate::values::Value;
 
 // What a live cell holds: a constructor, how many of its six fields are used, the fields, and a spare number that is
 // free for whoever walks the cells. Unused fields hold unit.
+// An array with its count, since memory is fixed: a cell lies in a lent slot, and a library takes no heap.
 #[derive(Clone, Copy, Debug, PartialEq, Eq)]
 pub struct CellRecord {
     pub constructor: u16,

@@ -58,7 +58,7 @@ impl Value {
                 _ => None,
             },
             Kind::Sym => Some(Value::Sym(number)),
-            Kind::Unit => if number == 0 { Some(Value::Unit) } else { None },
+            Kind::Unit => (number == 0).then_some(Value::Unit),
             Kind::Function => Some(Value::Function(number)),
             Kind::Cell => Some(Value::Cell(number)),
         }
