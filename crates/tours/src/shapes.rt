@@ -25,6 +25,17 @@ pub fn pair(first: Value, second: Value) -> CellRecord {
     }
 }
 
+// A cell with these six fields, as a value.
+fn take_six<S: CellStore>(store: &mut S, fields: [Value; 6]) -> Result<Value, WalkRefusal> {
+    let contents = CellRecord {
+        constructor: SIX,
+        used: 6,
+        fields,
+        spare: 99,
+    };
+    Ok(Value::cell(take(store, contents)?))
+}
+
 // A list of pairs, a number and the rest in each, with an empty cell at its end: `cells` cells in all, one at least.
 pub fn list<S: CellStore>(store: &mut S, cells: u32) -> Result<Value, WalkRefusal> {
     let end = take(store, CellRecord::bare(NIL))?;
@@ -79,14 +90,7 @@ pub fn sixes<S: CellStore, C: Fn(&mut S, Value) -> Result<Value, WalkRefusal>>(
         for field in &mut fields[1..] {
             *field = copy(store, value)?;
         }
-        let contents = CellRecord {
-            constructor: SIX,
-            used: 6,
-            fields,
-            spare: 99,
-        };
-        let cell = take(store, contents)?;
-        value = Value::cell(cell);
+        value = take_six(store, fields)?;
     }
     Ok(value)
 }
@@ -101,14 +105,7 @@ pub fn comb<S: CellStore>(store: &mut S, levels: u32) -> Result<Value, WalkRefus
                 *field = Value::cell(take(store, CellRecord::bare(NIL))?);
             }
         }
-        let contents = CellRecord {
-            constructor: SIX,
-            used: 6,
-            fields,
-            spare: 99,
-        };
-        let cell = take(store, contents)?;
-        value = Value::cell(cell);
+        value = take_six(store, fields)?;
     }
     Ok(value)
 }
