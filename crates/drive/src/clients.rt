@@ -29,6 +29,7 @@ pub fn take_two<S: CellStore>(
         (λ _. S.CellStore.cells store.new ≡ S.CellStore.cells store.old) }
 {
     let first = store.take(a)?;
+    // A match, since the first cell goes back before the refusal goes on.
     match store.take(b) {
         Ok(second) => Ok((first, second)),
         Err(refusal) => {

@@ -24,7 +24,8 @@ impl<'a, 'm, S: CellStore> Trial<'a, 'm, S> {
         self.refused(refusal, StoreRefusal::DeadCell) && !self.model.is_live(cell)
     }
 
-    // Makes one call on the store and on the model, and says whether the answers agree.
+    // Makes one call on the store and on the model, and says whether the answers agree. A match on a closed enum, since each
+    // case has its own rule.
     fn make(&mut self, call: Call) -> bool {
         match call {
             Call::Take(contents) => match self.store.take(contents) {
