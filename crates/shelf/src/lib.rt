@@ -13,6 +13,7 @@ pub const PLACES: usize = 16;
 
 // A layer over any store that keeps up to sixteen cells given back and hands these out first. A cell on the shelf is
 // live below and free above. The first `count` places have cells, the others the number of no cell.
+// (`lent` is a clause of each call that changes the shelf: what a call leaves as it was is no fact of one value.)
 #[derive(Drop)]
 pub struct Shelf<'b, S> {
     below: &'b mut S,
@@ -82,13 +83,10 @@ impl<'b, S: CellStore> Shelf<'b, S> {
             ((self.old.count ≡ 0) × (self.new ≡ self.old))
             (λ cell. (self.new.count + 1 ≡ self.old.count) × (cell ≡ slice_index self.old.kept self.new.count) × (self.new.kept ≡ slice_set self.old.kept self.new.count 65535) × (self.new.below ≡ self.old.below)) }
     {
-        if self.count > 0 {
-            self.count -= 1;
-            let cell = self.kept[self.count];
-            self.kept[self.count] = MOST_CELLS;
-            return Some(cell);
-        }
-        None
+        self.count = self.count.checked_sub(1)?;
+        let cell = self.kept[self.count];
+        self.kept[self.count] = MOST_CELLS;
+        Some(cell)
     }
 
     // Takes cells off the shelf, the last given back first, until one is live below, and writes the contents there.
