@@ -57,8 +57,9 @@ module _ (xs : List ChainSlot) (capacity : ℕ) (long : length xs ≡ capacity) 
       go (suc m) e c = (m, e, c)
 
   -- and that slot is free
-  pub head_free : (free live : ℕ) (r : CellRecord) → chained (capacity - live) xs free ≡ true → slice_get xs free ≡ Some (Live r) → ⊥
-  head_free free live r linked got =
+  pub head_free : (free live : ℕ) (x : ChainSlot) → ((n : ℕ) → x ≡ Free n → ⊥) → chained (capacity - live) xs free ≡ true → slice_get xs free ≡ Some x → ⊥
+  head_free free live (Free n) other linked got = other n refl
+  head_free free live (Live r) other linked got =
       let m = headed free live (Live r) linked got in
       both_ways (is_free (slot_at xs free)) (ap is_free (get_or_from_slice_get xs free (Live r) (Free 0) got)) (link_of m.0 xs free m.2).free
 

@@ -68,16 +68,13 @@ impl CellStore for ChainStore<'_> {
         if head >= self.capacity {
             return Err(StoreRefusal::NoFreeCell);
         }
-        let slot = self.slots[head as usize];
-        match slot {
-            ChainSlot::Free(next) => {
-                self.slots[head as usize] = ChainSlot::Live(contents);
-                self.free = next;
-                self.live += 1;
-                Ok(head)
-            }
-            ChainSlot::Live(_) => unreachable(),
-        }
+        let ChainSlot::Free(next) = self.slots[head as usize] else {
+            unreachable()
+        };
+        self.slots[head as usize] = ChainSlot::Live(contents);
+        self.free = next;
+        self.live += 1;
+        Ok(head)
     }
 
     #[inline(always)]

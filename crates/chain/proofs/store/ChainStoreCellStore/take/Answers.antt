@@ -44,8 +44,8 @@ invariant_of-self c =
 pub unreachable-requires : goal.unreachable-requires
 unreachable-requires c =
     let s = c.args.self.now in
-    let got = front_read s.slots.now s.capacity s.free _ s.sized c.if-head-self.false ∙ ap Some c.in-Live.is in
-    head_free (front s.slots.now) s.capacity (front_length s.slots.now s.capacity s.sized) s.free s.live _ s.linked got
+    let got = front_read s.slots.now s.capacity s.free _ s.sized c.if-head-self.false in
+    head_free (front s.slots.now) s.capacity (front_length s.slots.now s.capacity s.sized) s.free s.live _ c.in_default.not-Free s.linked got
 
 pub returns : goal.returns
 returns c =
