@@ -14,7 +14,7 @@ use Rattle.marked.specs.Marks.{marked_cell, NoneFree, FreeAt}
 
 -- a free slot found among those from a place on, or before it
 
-pub found_late : (xs : List (Option CellRecord)) (next i : ℕ) → FreeAt (drop next xs) (length (drop next xs)) i → FreeAt xs (length xs) (next + i)
+found_late : (xs : List (Option CellRecord)) (next i : ℕ) → FreeAt (drop next xs) (length (drop next xs)) i → FreeAt xs (length xs) (next + i)
 found_late xs next i free = (omega (arith, free.0, length-drop next xs), λ d. sym (ap marked_cell (get_or-drop next xs i d)) ∙ free.1 d)
 
 found_early : (xs : List (Option CellRecord)) (next i : ℕ) → FreeAt (take next xs) (length (take next xs)) i → FreeAt xs (length xs) i
@@ -36,9 +36,14 @@ found_none xs next late early k d from to = ⊎_elim
     ∙ late (k - next) d (omega arith) within)
     (cases_lt k next)
 
-pub found_before : (xs : List (Option CellRecord)) (next : ℕ) (answer : Option ℕ) → NoneFree (drop next xs) 0 (length (drop next xs)) → MatchOption answer (NoneFree (take next xs) 0 (length (take next xs))) (λ i. FreeAt (take next xs) (length (take next xs)) i) → MatchOption answer (NoneFree xs 0 (length xs)) (λ i. FreeAt xs (length xs) i)
+found_before : (xs : List (Option CellRecord)) (next : ℕ) (answer : Option ℕ) → NoneFree (drop next xs) 0 (length (drop next xs)) → MatchOption answer (NoneFree (take next xs) 0 (length (take next xs))) (λ i. FreeAt (take next xs) (length (take next xs)) i) → MatchOption answer (NoneFree xs 0 (length xs)) (λ i. FreeAt xs (length xs) i)
 found_before xs next None late early = found_none xs next late early
 found_before xs next (Some i) late early = found_early xs next i early
+
+-- the search in the slots from a place on, its answer counted from there, and only then in those before
+pub found_from : {P : Type 0} (xs : List (Option CellRecord)) (next : ℕ) (late shifted answer : Option ℕ) → MatchOption late (NoneFree (drop next xs) 0 (length (drop next xs))) (λ i. FreeAt (drop next xs) (length (drop next xs)) i) → MatchOption late (shifted ≡ None) (λ i. shifted ≡ Some (next + i)) → (P → MatchOption answer (NoneFree (take next xs) 0 (length (take next xs))) (λ i. FreeAt (take next xs) (length (take next xs)) i)) → MatchOption shifted P (λ i. answer ≡ Some i) → MatchOption answer (NoneFree xs 0 (length xs)) (λ i. FreeAt xs (length xs) i)
+found_from xs next None shifted answer late told early m = found_before xs next answer late (early (rw told at m))
+found_from xs next (Some i) shifted answer late told early m = rw (rw told at m) (found_late xs next i late)
 
 -- a record put in a free slot, and slots that are all live
 

@@ -34,10 +34,9 @@ fn search(slots: &[Option<CellRecord>], next: usize) -> Option<usize>
     ensures { MatchOption result (NoneFree slots.now 0 (length slots.now)) (λ i. FreeAt slots.now (length slots.now) i) }
 {
     let (before, after) = slots.split_at(next);
-    match first_free(after) {
-        Some(found) => Some(next + found),
-        None => first_free(before),
-    }
+    first_free(after)
+        .map(|found| next + found)
+        .or_else(|| first_free(before))
 }
 
 impl<'a> MarkedStore<'a> {
@@ -92,16 +91,14 @@ impl CellStore for MarkedStore<'_> {
         if self.live == self.capacity {
             return Err(StoreRefusal::NoFreeCell);
         }
-        match self.search() {
-            Some(found) => {
-                let found = found as u16;
-                self.slots[found as usize] = Some(contents);
-                self.live += 1;
-                self.next = found + 1;
-                Ok(found)
-            }
-            None => unreachable(),
-        }
+        let Some(found) = self.search() else {
+            unreachable()
+        };
+        let found = found as u16;
+        self.slots[found as usize] = Some(contents);
+        self.live += 1;
+        self.next = found + 1;
+        Ok(found)
     }
 
     #[inline(always)]

@@ -39,8 +39,8 @@ bounds-self-found c =
     let long = front_length s.slots.now s.capacity s.sized in
     omega (arith, s.sized, long, c.in-Some.ensures.0)
 
-pub overflow_add-self-in-Some : goal.overflow_add-self-in-Some
-overflow_add-self-in-Some c =
+pub overflow_add-self-2 : goal.overflow_add-self-2
+overflow_add-self-2 c =
     let s = c.args.self.now in
     let long = front_length s.slots.now s.capacity s.sized in
     let b : c.in-Some.found + 1 ≤ 65535 = omega (arith, s.sized, long, c.in-Some.ensures.0) in
@@ -70,7 +70,7 @@ invariant_of-self c =
 pub unreachable-requires : goal.unreachable-requires
 unreachable-requires c =
     let s = c.args.self.now in
-    let none = c.in-None.ensures in
+    let none = c.in_default.ensures in
     c.if-self.false (omega (arith, s.counted, all_marked (front s.slots.now) none, front_length s.slots.now s.capacity s.sized))
 
 pub returns : goal.returns
