@@ -2,6 +2,7 @@
 // counted. Every store is empty at the end.
 #![tactic(auto)]
 
+use cells::store::CellStore;
 use chain::slots::ChainSlot;
 use chain::store::ChainStore;
 use data::copies::copy_value;
@@ -10,28 +11,29 @@ use shelf::Shelf;
 use std::io;
 use tours::tour::walk_all;
 
-// What differs from the other program is how to copy, over each of four stores: a closure cannot be generic over the store, so it is passed in each call.
+// Prints what was seen on a tour over the store, under the store's name.
+// It stands in both programs, which differ in how they copy: a closure cannot be generic over the store, so none can be passed in.
+fn tell<S: CellStore>(rt: &HostRuntime, name: &str, store: &mut S) -> io::Result<()> {
+    if let Ok(tour) = walk_all(store, &copy_value, false) {
+        println!(rt; "{name}\n{tour}")?;
+    }
+    Ok(())
+}
+
 fn main(rt: HostRuntime) -> io::Result<()> {
-    let out = rt.stdout();
     let mut chain_slots = vec![in rt.alloc(); ChainSlot::Free(0); 65535]?;
     let mut marked_slots = vec![in rt.alloc(); None; 65535]?;
-    let mut store = ChainStore::new(chain_slots.as_mut_slice());
-    if let Ok(tour) = walk_all(&mut store, &copy_value, false) {
-        println!(out; "chain\n{tour}")?;
-    }
-    let mut store = MarkedStore::new(marked_slots.as_mut_slice());
-    if let Ok(tour) = walk_all(&mut store, &copy_value, false) {
-        println!(out; "marked\n{tour}")?;
-    }
-    let mut below = ChainStore::new(chain_slots.as_mut_slice());
-    let mut store = Shelf::new(&mut below);
-    if let Ok(tour) = walk_all(&mut store, &copy_value, false) {
-        println!(out; "shelf over chain\n{tour}")?;
-    }
-    let mut below = MarkedStore::new(marked_slots.as_mut_slice());
-    let mut store = Shelf::new(&mut below);
-    if let Ok(tour) = walk_all(&mut store, &copy_value, false) {
-        println!(out; "shelf over marked\n{tour}")?;
-    }
+    tell(&rt, "chain", &mut ChainStore::new(&mut chain_slots))?;
+    tell(&rt, "marked", &mut MarkedStore::new(&mut marked_slots))?;
+    tell(
+        &rt,
+        "shelf over chain",
+        &mut Shelf::new(&mut ChainStore::new(&mut chain_slots)),
+    )?;
+    tell(
+        &rt,
+        "shelf over marked",
+        &mut Shelf::new(&mut MarkedStore::new(&mut marked_slots)),
+    )?;
     Ok(())
 }
