@@ -29,6 +29,7 @@ impl<'t> Source<'t> {
     fn parts_at(&self, place: usize) -> usize
         ensures { result ≡ parts_of (lexed_from self.now.text.now place) }
     {
+        // Two arms: as two closures of a `map_or_else` they would be no plainer.
         match self.counts.get(place).copied().flatten() {
             Some(parts) => parts as usize,
             None => count_parts(self.text, place),

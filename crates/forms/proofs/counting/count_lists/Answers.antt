@@ -1,5 +1,4 @@
-use Rattle.std.proofs.Common.{◌≡◌, ◌∷◌, false, Result, Ok, Err, ap, sym, ◌∙◌, subst}
-use Rattle.std.proofs.Math.Nat.{min_comm}
+use Rattle.std.proofs.Common.{◌≡◌, ◌∷◌, false, Result, Ok, Err, ap, sym, ◌∙◌, subst, arith}
 use Rattle.std.specs.Result.{is_err}
 use Rattle.stack.specs.Items.{tops}
 use Rattle.stack.specs.declared.full.Full.{Full}
@@ -45,6 +44,6 @@ tokens-preserved-in-Some c =
     let lists = tops c.pop.new.self in
     let whole = subst (Pending text (lexed_from text c.tokens.at) 0) c.in-Some.ensures.tops inv.1 in
     let closed = pending_close text sees.0 c.in-Close.field-0 sees.1.0 (lexed_from text c.in-Close.after) c.in-Some.list lists (subst (λ l. Pending text l 0 (c.in-Some.list ∷ lists)) sees.1.1.follows whole) in (
-      subst (Known text) (sym c.put.ensures.written) (known_set text c.tokens.counts c.in-Some.list.inside _ (c.min.ensures ∙ min_comm c.in-Some.list.parts 7 ∙ closed.0) inv.0),
+      subst (Known text) (sym c.put.ensures.written) (known_set text c.tokens.counts c.in-Some.list.inside _ (let least = c.min.ensures in let whole = closed.0 in omega arith) inv.0),
       closed.1,
     )
