@@ -37,6 +37,7 @@ impl<'w, T: Trial + Drop> Run<'w, T> {
     // Takes one line of the file.
     fn take(&mut self, rt: &HostRuntime, line: &str) -> io::Result<()> {
         self.line = self.line.saturating_add(1);
+        // By let-else the refusal would stand twice: a line may also be read and then not be followed.
         let understood = match parse_line(line) {
             Some(said) => self.follow(rt, said)?,
             None => false,
@@ -47,7 +48,7 @@ impl<'w, T: Trial + Drop> Run<'w, T> {
         Ok(())
     }
 
-    // Does what a line says; false where it is none that the program has.
+    // Does what a line says; false where it is none that the program has. A closed enum, and each kind of line does its own.
     fn follow(&mut self, rt: &HostRuntime, line: Line<'_>) -> io::Result<bool> {
         match line {
             Line::Skip => {}
