@@ -36,10 +36,10 @@ fn knows(script: &Script<'_>, nodes: &mut [Node]) -> bool {
     if !script.is_left(nodes) {
         return false;
     }
-    match nodes.first_mut() {
-        Some(node) => *node = OTHER,
-        None => return true,
-    }
+    let Some(node) = nodes.first_mut() else {
+        return true;
+    };
+    *node = OTHER;
     !script.is_left(nodes)
 }
 
