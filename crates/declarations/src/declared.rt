@@ -1,8 +1,8 @@
 // What a script declares: its datatypes, its functions and its vals.
 use super::size::{Size, size_at};
-use super::types::{DEPTH, Types};
+use super::types::Types;
 use explain::shown;
-use layout::{Constructor, Datatype, Definition, Function, Tables, Val};
+use layout::{Constructor, DEPTH, Datatype, Definition, Function, Tables, Val};
 use names::part;
 use parser::Script;
 use std::io;

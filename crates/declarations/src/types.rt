@@ -8,9 +8,6 @@ use std::alloc::{AllocError, Global};
 // A function type has at most so many parts: six parameter types and the result type.
 const PARTS: usize = 7;
 
-// How deep function types nest.
-pub const DEPTH: usize = 64;
-
 // The type expressions of a script, and its text, which has their names.
 #[derive(Clone, Copy)]
 pub struct Types<'s> {
