@@ -47,6 +47,7 @@ fn frame_place(script: &Compiled, frame: Frame) -> u16
     ensures { (P : Program) (G : Scope) (f : Expression) (K : List Expression) (fs : List Waiting) → Lays script.now P → Waits P script.now.code G (f ∷ K) (frame ∷ fs)
         → result ≡ place_of_frame f }
 {
+    // Here and below, tried: by map_or the proofs didn't close.
     match node_of(frame) {
         Some(at) => place_at(script, at),
         None => script.main_place,
