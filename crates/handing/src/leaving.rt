@@ -27,7 +27,7 @@ fn drop_slot<S: CellStore>(store: &mut S, slot: Slot) -> Option<u32>
     ensures { (m₀ : Cells) (vs : List Held) (t : Tree) (ts : Trees) → Out (S.CellStore.cells store.old) (value_in slot ∷ vs) (more t ts) m₀
         → (result ≡ Some (size t)) × Out (S.CellStore.cells store.new) vs ts m₀ }
 {
-    // Tried: by map_or the proof doesn't close, since the closure holds the store.
+    // Tried: by map_or the proof didn't close.
     match slot {
         Some(value) => drop_value(store, value).ok(),
         None => Some(0),
