@@ -107,6 +107,7 @@ pub fn read_slot<T: Slot>(slots: &[T], cell: u16) -> Result<CellRecord, StoreRef
 }
 
 // Puts a slot at a number; past the end nothing changes.
+// As `put` of `entries`, but always inlined, as each call of the stores is: a record that is passed to a call is copied.
 #[inline(always)]
 fn put_slot<T: Copy>(slots: &mut [T], cell: u16, slot: T)
     ensures { slots.new ≡ slice_set slots.old cell slot }
