@@ -16,7 +16,7 @@ use Rattle.data.specs.Trees.{Tree, Trees, built, none, more, size, sizes}
 use Rattle.data.specs.Standing.{Among, among_first, among_later, less}
 use Rattle.data.specs.Taking.{Out, out_none, out_plain, out_cell}
 use Rattle.data.specs.Steps.{Links, links_end, links_on}
-use Rattle.data.specs.Copying.{Within, NoCopy, CellCopied, RowCopied, row_none, row_plain, row_data, FieldsCopied, copied_whole, copied_part, Turned, LeftBy, CopiesCells, Rooms}
+use Rattle.data.specs.Copying.{Within, NoCopy, CellCopied, CopiesCell, RowCopied, row_none, row_plain, row_data, FieldsCopied, copied_whole, copied_part, Turned, LeftBy, CopiesCells, Rooms}
 use Rattle.data.specs.declared.refusals.WalkRefusal.{WalkRefusal}
 use Rattle.data.specs.declared.refusals.WalkRefusal.TheVariants.{NoFreeCell, Stuck}
 use Rattle.data.specs.Refusals.{Okay}
@@ -78,6 +78,18 @@ pub fielding_stopped : {entry current exit : Cells} {old new : CellRecord} {head
 fielding_stopped {entry} {old = old} {new = new} {head = head} {top = top} {i = i} {n = n} d p l is same why f =
     let whole : take (i - 1) (row old) ++ (Cell n ∷ drop i (row old)) ≡ row old = rw (← is, f.before (i - 1) d (omega arith), ← row_back old i d p l) (take-append-drop (i - 1) (row old)) in
     copied_part (take (i - 1) (row old)) n (drop i (row old)) (sym whole) (subst (λ z. RowCopied entry head (drop i (row old)) (drop i (row new)) f.ms top z) (sym same) f.copied) (rw same why)
+
+-- a cell whose copy may be refused, with an error of another sort then
+
+pub cell_copied : {E : Type 0} {entry exit : Cells} (n head : ℕ) {m : ℕ} (e : E) (q : Result ℕ WalkRefusal) (r : Result ℕ E) → MatchResult q (λ k. r ≡ Ok k) (λ _. r ≡ Err e) → r ≡ Ok m → CopiesCell entry n head q exit → CellCopied entry n head m exit
+cell_copied {entry = entry} {exit = exit} n head {m} e (Ok k) r told is does =
+    let same : k ≡ m = cc in
+    subst (λ z. CellCopied entry n head z exit) same does
+cell_copied n head e (Err w) r told is does = absurd (true≢false (sym (ap is_ok (sym told ∙ is))))
+
+pub cell_refused : {E : Type 0} {entry exit : Cells} (n head : ℕ) (e : E) {f : E} (q : Result ℕ WalkRefusal) (r : Result ℕ E) → MatchResult q (λ k. r ≡ Ok k) (λ _. r ≡ Err e) → r ≡ Err f → CopiesCell entry n head q exit → (f ≡ e) × (exit ≡ entry) × NoCopy entry n
+cell_refused n head e (Ok k) r told is does = absurd (true≢false (ap is_ok (sym told ∙ is)))
+cell_refused n head e (Err w) r told is does = (cc, does.1, does.2)
 
 pub not_cell : (v : Value) → ((n : ℕ) → v ≡ Cell n → ⊥) → is_cell v ≡ false
 not_cell (Cell n) h = absurd (h n refl)

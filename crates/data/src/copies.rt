@@ -35,9 +35,7 @@ fn copy_fields<S: CellStore>(
     // by place, since `set_field` puts a field at a place: it keeps what the type says of a record
     for i in (0..contents.used as usize).rev() {
         if let Value::Cell(number) = contents.fields[i] {
-            let Ok(cell) = copy_cell(store, number, top) else {
-                return Err(top);
-            };
+            let cell = copy_cell(store, number, top).map_err(|_| top)?;
             contents.set_field(i, Value::Cell(cell));
             top = cell;
         }
@@ -68,12 +66,10 @@ fn copy_data<S: CellStore>(store: &mut S, number: u32) -> Result<Value, Unfinish
 {
     let limit = store.live_count() as u32;
     // The walk's own refusal is dropped here: nothing waits yet, and the caller is told so.
-    let Ok(first) = copy_cell(store, number, END) else {
-        return Err(Unfinished {
-            waiting: END,
-            finished: END,
-        });
-    };
+    let first = copy_cell(store, number, END).map_err(|_| Unfinished {
+        waiting: END,
+        finished: END,
+    })?;
     let mut waiting = first;
     let mut finished = END;
     let mut count: u32 = 0;
