@@ -1,0 +1,20 @@
+// The cases of the check: gives each text of `cases.txt` to `read` and to `check` and compares with the answer that stands beside it. An
+// accepted script has so many defines and vals.
+//
+// The file reads as `case_files` says, with two words more:
+//
+//   lent N                          the node list has N entries; 4096 where a case does not say
+//   changed text|nodes              the check is handed another text, or a node list whose first entry is another
+//
+// A case without a `text`, `times` or `hex` line is the empty text.
+#![tactic(auto)]
+
+mod scripts;
+
+use case_files::run_cases;
+use scripts::Scripts;
+use std::io;
+
+fn main(rt: HostRuntime) -> io::Result<()> {
+    run_cases(&rt, "row", Scripts::new())
+}

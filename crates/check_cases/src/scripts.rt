@@ -1,0 +1,89 @@
+// What the check finds of the text of a case.
+use case_files::{Answer, Found, Refused, Trial};
+use checking::check;
+use layout::{NODES, Node, NodeForm};
+use parser::{Script, read};
+use std::alloc::{AllocError, Global};
+
+// What no script's first node is.
+const OTHER: Node = Node {
+    form: NodeForm::Unit,
+    place: 65535,
+    past: 0,
+};
+
+// What is not as it was when the check comes.
+#[derive(Clone, Copy, PartialEq, Eq)]
+enum Change {
+    Text,
+    Nodes,
+}
+
+// How many entries the node list of the next text has, and what is changed before the check.
+#[derive(Clone, Copy)]
+pub struct Scripts {
+    lent: usize,
+    changed: Option<Change>,
+}
+
+impl Scripts {
+    pub fn new() -> Scripts {
+        Scripts {
+            lent: NODES,
+            changed: None,
+        }
+    }
+}
+
+// What the check answers: how many defines and vals there are, or the refusal by its number.
+fn checked(script: &Script<'_>, text: &[u8], nodes: &[Node]) -> Answer {
+    match check(script, text, nodes) {
+        Ok(checked) => Ok(checked.counts().bindings),
+        Err(refused) => Err(Refused {
+            number: refused.refusal.number(),
+            place: refused.place,
+        }),
+    }
+}
+
+// What reading and the check answer of a text.
+fn answer(text: &[u8], nodes: &mut [Node], changed: Option<Change>) -> Answer {
+    let script = read(text, nodes)?;
+    if changed == Some(Change::Text) {
+        return checked(&script, b"", nodes);
+    }
+    if changed == Some(Change::Nodes) {
+        if let Some(node) = nodes.first_mut() {
+            *node = OTHER;
+        }
+    }
+    checked(&script, text, nodes)
+}
+
+impl Trial for Scripts {
+    fn set(&mut self, word: &str, rest: &str) -> Option<()> {
+        match word {
+            "lent" => self.lent = rest.parse::<usize>().ok()?,
+            "changed" => {
+                self.changed = match rest {
+                    "text" => Some(Change::Text),
+                    "nodes" => Some(Change::Nodes),
+                    _ => return None,
+                }
+            }
+            _ => return None,
+        }
+        Some(())
+    }
+
+    fn found(&mut self, heap: Global, text: &[u8]) -> Result<Found, AllocError> {
+        let mut nodes = vec![in heap; Node::UNUSED; self.lent]?;
+        let changed = self.changed;
+        *self = Scripts::new();
+        Ok(Found {
+            answer: answer(text, &mut nodes, changed),
+            listing: String::new(heap),
+            complaint: None,
+        })
+    }
+}
