@@ -27,7 +27,9 @@ fn print_checked(
             let counts = checked.counts();
             let functions = script.tables().functions.count;
             let (nodes, constructors) = (counts.nodes, counts.constructors);
-            println!(rt; "checked: {nodes} nodes, {functions} functions, {constructors} constructors")
+            println!(rt;
+                "checked: {nodes} nodes, {functions} functions, {constructors} constructors"
+            )
         }
         Err(refused) => rt.print(explain_refusal(rt.alloc(), text, refused)?),
     }
