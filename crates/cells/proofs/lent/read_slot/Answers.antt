@@ -19,4 +19,4 @@ pub returns-in-None : goal.returns-in-None
 returns-in-None g c =
     let s = c.args.slots.now in
     let got = front_read s (min (length s) 65535) c.args.cell _ refl (omega (arith, c.if-cell-used.false, c.min-used.ensures)) ∙ ap Some (sym c.index-slots-cell.is) in
-    read_dead g.T.Slot.cell (front s) c.args.cell _ got (sym c.record.ensures ∙ ap option_copied c.in-None.is)
+    search (read_dead g.T.Slot.cell (front s) c.args.cell _ got (sym c.record.ensures ∙ ap option_copied c.in-None.is))

@@ -17,7 +17,8 @@ returns-clause-means g c =
     let s = c.args.slots.now in
     let f = g.T.Slot.cell in
     let live = ap is_some (read_some (meant f s) c.args.cell _ (sym c.in_ok-read_slot.ensures)) in
-    changed_slot f (front s) c.args.cell c.live.result (Some c.args.contents) (front c.put_slot.new.slots) live (ap front c.put_slot.ensures ∙ front_set s c.args.cell c.live.result) (ap f c.live.ensures ∙ g.met.T.Slot.held c.args.contents)
+    let made : c.live.result ≡ g.T.Slot.holding c.args.contents = search c.live.ensures in
+    changed_slot f (front s) c.args.cell c.live.result (Some c.args.contents) (front c.put_slot.new.slots) live (ap front c.put_slot.ensures ∙ front_set s c.args.cell c.live.result) (ap f made ∙ g.met.T.Slot.held c.args.contents)
 
 pub returns-clause-past : goal.returns-clause-past
 returns-clause-past g c =

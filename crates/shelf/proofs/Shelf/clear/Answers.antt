@@ -12,7 +12,8 @@ loop-cell-preserved g c =
     let after = cells c.give_back.new.self in
     let p = c.in-Some.ensures in
     let within : c.pop.new.self.count < length c.loop-cell.self.kept = omega (arith, s.few, s.sixteen, p.0) in
-    let given = subst (λ below. GivenBack (cells below.now) c.in-Some.cell c.give_back.result after) p.3 c.give_back.ensures in (
+    let gives : GivenBack (cells t.below.now) c.in-Some.cell c.give_back.result after = search c.give_back.ensures in
+    let given = subst (λ below. GivenBack (cells below.now) c.in-Some.cell c.give_back.result after) p.3 gives in (
       popped_back s.kept t.kept t.count c.in-Some.cell (cells s.below.now) after c.give_back.result (g.S.CellStore.small s.below.now) within p.1 p.2 given
           ∙ c.loop-cell.invariant.0,
       ap (λ below. below.ghost_name) p.3 ∙ c.loop-cell.invariant.1,
