@@ -37,7 +37,7 @@ returns-in-Reads-clause-law c = λ P Z m₀ m s K env a M U says.
 pub returns-in-Faults-clause-law : goal.returns-in-Faults-clause-law
 unfolding answer
 returns-in-Faults-clause-law c = λ P Z m₀ m s K env a M U says.
-    by_printing (ap (answer P Z c.args.basis K env a) c.in-Faults.is ∙ ap (λ k. fails k (Some c.args.basis)) (sym c.from.ensures)) (printed_not refl M)
+    search (by_printing {old = c.args.out.now} {new = c.args.out.now} (ap (answer P Z c.args.basis K env a) c.in-Faults.is ∙ ap (λ k. fails k (Some c.args.basis)) (sym c.from.ensures)) (printed_not {kind = c.from.result} {f = Some c.args.basis} refl M))
 
 pub returns-in-Mismatch-clause-law : goal.returns-in-Mismatch-clause-law
 unfolding answer

@@ -29,5 +29,5 @@ returns-clause-law c = λ P Z m₀ m s K env a U.
     let fits : SFits w32 (pos n) = search rules in
     let is : to_z w32 n ≡ pos n = to_z-of_z w32 (pos n) fits in
     by_rule (finishes P Z K env (leaves (later_bytes a.input) a) (int (first_byte a.input)))
-    (c.give-2.ensures.law P Z m₀ m s K env (leaves (later_bytes a.input) a) (int (first_byte a.input)) (under_read U c.in-Some.rest (later_bytes a.input) (ap later_bytes (sym left)))
+    (c.give-2.ensures.law P Z m₀ m s K env (leaves (later_bytes a.input) a) (int (first_byte a.input)) (search (under_read U c.in-Some.rest (later_bytes a.input) (ap later_bytes (sym left))))
     (subst (λ z. Plain (Int (to_z w32 n)) (int z)) (is ∙ ap first_byte (sym left)) plain_int))

@@ -16,7 +16,7 @@ returns-in_err-rest-in-Cell-clause-law g c =
 pub returns-in_ok-rest-in-Cell : goal.returns-in_ok-rest-in-Cell
 returns-in_ok-rest-in-Cell g c =
     let does = field_put (ap is_cell c.in-Cell.is) refl refl c.in_ok-rest-in-Cell.ensures.steps in
-    record { steps = does; law = add_law (Ok record { value = c.args.field; rest = c.in_ok-rest-in-Cell.rest }) does }
+    record { steps = search does; law = add_law (Ok record { value = c.args.field; rest = c.in_ok-rest-in-Cell.rest }) does }
 
 pub returns-in_default : goal.returns-in_default
 returns-in_default g c =

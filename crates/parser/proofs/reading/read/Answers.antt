@@ -1,4 +1,4 @@
-use Rattle.std.proofs.Common.{◌≡◌, [], ◌++◌, length, take, drop, replicate, Ok, Err, sym, refl, ap, ◌∙◌, subst}
+use Rattle.std.proofs.Common.{◌≡◌, [], ◌++◌, length, take, drop, replicate, Ok, Err, sym, ap, ◌∙◌, subst, rules}
 use Rattle.std.proofs.lemmas.Result.{err_from_is_err_and}
 use Rattle.grammar.specs.Reading.{reading}
 use Rattle.layout.specs.Encoding.{unused}
@@ -21,7 +21,8 @@ returns-in-Err-clause-answers c =
     let size : length c.clear.new.nodes ≡ entries = ap length c.clear.ensures ∙ length-replicate entries unused in
     let long : length c.definitions.new.nodes ≡ entries = c.definitions.auto.nodes ∙ size in
     let told = under_names c.in_ok-source.source.text.now text made.0 (length c.clear.new.nodes) entries size c.blank-tables.result c.blank-tables.ensures c.clear.new.nodes c.clear.ensures (Err c.in-Err.refused) c.definitions.new.tables c.definitions.new.nodes c.in-Err.ensures.told in
-    let cleared : c.clear-in-Err.new.nodes ≡ replicate entries unused = c.clear-in-Err.ensures ∙ ap (λ n. replicate n unused) long in
+    let all : c.clear-in-Err.new.nodes ≡ replicate (length c.definitions.new.nodes) unused = search c.clear-in-Err.ensures in
+    let cleared : c.clear-in-Err.new.nodes ≡ replicate entries unused = all ∙ ap (λ n. replicate n unused) long in
     subst (λ ns. Answers (reading text entries) text entries (Err c.in-Err.refused) ns) (sym cleared)
     (read_refused text entries made.1.0 made.1.1 c.in-Err.refused c.definitions.new.tables c.definitions.new.nodes told)
 
@@ -36,9 +37,10 @@ returns-clause-answers c =
     let size : length c.clear.new.nodes ≡ entries = ap length c.clear.ensures ∙ length-replicate entries unused in
     let ok = c.in_default.ensures in
     let told = under_names c.in_ok-source.source.text.now text made.0 (length c.clear.new.nodes) entries size c.blank-tables.result c.blank-tables.ensures c.clear.new.nodes c.clear.ensures (Ok tt) c.definitions.new.tables c.definitions.new.nodes ok.told in
+    let numbers : c.number_symbols.new.nodes ≡ numbered c.in_ok-source.source.text.now [] (take 4096 c.definitions.new.nodes) ++ drop 4096 c.definitions.new.nodes = search c.number_symbols.ensures in
     read_made text entries made.1.0 made.1.1 c.definitions.new.tables c.definitions.new.nodes c.number_symbols.new.nodes ok.goes told
-    (c.number_symbols.ensures ∙ ap (λ x. numbered x [] (take 4096 c.definitions.new.nodes) ++ drop 4096 c.definitions.new.nodes) made.0)
-    _ refl refl refl c.first_nodes.ensures
+    (numbers ∙ ap (λ x. numbered x [] (take 4096 c.definitions.new.nodes) ++ drop 4096 c.definitions.new.nodes) made.0)
+    _ (search rules) (search rules) (search rules) c.first_nodes.ensures
 
 pub returns-clause-law : goal.returns-clause-law
 returns-clause-law c = lawful c.args.text.now (length c.args.nodes.now) _ c.number_symbols.new.nodes (returns-clause-answers c)

@@ -41,7 +41,8 @@ returns-in-Field-clause-law g c = λ P Z m₀ f K env a t H S.
 pub returns-in-Body-clause-law : goal.returns-in-Body-clause-law
 returns-in-Body-clause-law g c = λ P Z m₀ f K env a t H S.
     let m = g.S.CellStore.cells c.args.store.now in
-    silent c.unprinted-in-Body.ensures.same refl (c.hand_leaving-in-Body.ensures.body P Z m₀ f K env a t (subst (λ fr. Hands P Z m₀ f K env a t fr c.args.value c.args.machine.now m) c.in-Body.is H))
+    let hands = subst (λ fr. Hands P Z m₀ f K env a t fr c.args.value c.args.machine.now m) c.in-Body.is H in
+    silent c.unprinted-in-Body.ensures.same refl (c.hand_leaving-in-Body.ensures.body P Z m₀ f K env a t (search hands))
 
 pub returns-in-Main-clause-law : goal.returns-in-Main-clause-law
 returns-in-Main-clause-law g c = λ P Z m₀ f K env a t H S.

@@ -26,7 +26,7 @@ pub returns-in-Enter-clause-law : goal.returns-in-Enter-clause-law
 unfolding step
 returns-in-Enter-clause-law g c = λ P Z m₀ s M S.
     on_enter (λ s. Printed P Z m₀ s c.args.out.now (step P Z (main_of P) s) c.unprinted-in-Enter.result c.enter.new.machine (g.S.CellStore.cells c.enter.new.store) c.args.out.now) s M c.in-Enter.is
-    (λ K env a e M. silent c.unprinted-in-Enter.ensures.same refl (c.enter.ensures.law P Z m₀ K env a e M c.in-Enter.is))
+    (λ K env a e M. silent c.unprinted-in-Enter.ensures.same refl (c.enter.ensures.law P Z m₀ K env a e M (search c.in-Enter.is)))
 
 pub returns-in_ok-frame-in-Finished-clause-law : goal.returns-in_ok-frame-in-Finished-clause-law
 unfolding step

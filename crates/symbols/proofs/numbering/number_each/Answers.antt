@@ -1,4 +1,4 @@
-use Rattle.std.proofs.Common.{◌+◌, get_or, refl, sym, ap, ◌∙◌, subst, arith}
+use Rattle.std.proofs.Common.{◌≡◌, ◌+◌, get_or, set, refl, sym, ap, ◌∙◌, subst, arith}
 use Rattle.std.proofs.lemmas.List.{set-get_or}
 use Rattle.layout.specs.Encoding.{node, unused}
 use Rattle.layout.specs.declared.node.NodeForm.TheVariants as form
@@ -26,7 +26,8 @@ loop-node-preserved c =
           let n = get_or c.loop-node.nodes i unused in
           let v = node (form.Symbol made.result) n.place n.past in
           let done = passing_symbol text old i c.loop-node.index c.loop-node.nodes (omega arith) s w.in-Symbol.place made.result made.new.index v (ap symbol_place w.in-Symbol.is) made.ensures.index made.ensures.few made.ensures.first made.ensures.holds refl in
-          subst (λ ix. Passing text old (i + 1) ix c.match-node.nodes) (sym w.index-is) (subst (λ ns. Passing text old (i + 1) made.new.index ns) (sym w.nodes-is) done)
+          let put : c.match-node.nodes ≡ set c.loop-node.nodes i v = search w.nodes-is in
+          subst (λ ix. Passing text old (i + 1) ix c.match-node.nodes) (sym w.index-is) (subst (λ ns. Passing text old (i + 1) made.new.index ns) (sym put) done)
       | in_default w ↦
           let done = passing_other text old i c.loop-node.index c.loop-node.nodes (omega arith) s (no_symbol _ w.in_default.not-Symbol) in
           subst (λ ix. Passing text old (i + 1) ix c.match-node.nodes) (sym w.index-is) (subst (λ ns. Passing text old (i + 1) c.loop-node.index ns) (sym (w.nodes-is ∙ set-get_or c.loop-node.nodes i unused)) done)

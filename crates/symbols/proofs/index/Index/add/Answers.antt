@@ -11,4 +11,4 @@ returns-clause-index c =
     let far : length s.links ≡ 4096 = search rules in
     let sums : length s.sums ≡ 4096 = search rules in
     let small : c.sum-sum.result % 4096 < 4096 = omega arith in
-    added c.args.text.now s _ c.args.literal c.sum-sum.result (c.sum-sum.result % 4096) (c.sum-sum.ensures.value ∙ ap sum_of c.between.ensures) refl refl (omega arith) refl c.requires.0 small wide far sums refl refl refl c.requires.1
+    added c.args.text.now s _ c.args.literal c.sum-sum.result (c.sum-sum.result % 4096) (c.sum-sum.ensures.value ∙ ap sum_of c.between.ensures) refl refl (omega arith) refl c.requires.0 small wide far sums (search rules) (search rules) (search rules) c.requires.1
