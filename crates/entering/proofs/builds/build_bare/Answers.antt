@@ -1,4 +1,4 @@
-use Rattle.std.proofs.Common.{◌+◌, ◌++◌, [], ◌∷◌, min, sym, refl, ap, ◌∙◌, subst, arith}
+use Rattle.std.proofs.Common.{◌≡◌, ◌+◌, ◌++◌, [], ◌∷◌, min, sym, refl, ap, ◌∙◌, subst, arith}
 use Rattle.data.specs.Taking.{Out}
 use Rattle.data.specs.Trees.{none, more, built}
 use Rattle.machine.proofs.Building.{built_out, cell_free, cells_full}
@@ -21,9 +21,10 @@ returns-clause-law g c = λ P Z m₀ K env a e M.
     let o : Out (g.S.CellStore.cells c.take.new.self) (c.cell.result ∷ values_in (tops r.slots)) (more (built k none) (trees_in (env ++ kept K))) m₀ =
     subst (λ v. Out (g.S.CellStore.cells c.take.new.self) (v ∷ values_in (tops r.slots)) (more (built k none) (trees_in (env ++ kept K))) m₀) (sym c.cell.ensures)
     (built_out {vs = []} {rest = values_in (tops r.slots)} {fields = none} {ts = trees_in (env ++ kept K)} c.bare.ensures took refl R.data_held) in
+    let counted : c.saturating_add-machine.result ≡ min (r.taken + 1) 18446744073709551615 = search c.saturating_add-machine.ensures in
     by_rule (build_fits P Z K env a k none env (omega arith))
     (c.finish.ensures.law P Z m₀ _ _ K env (takes 1 a) (built k none) (renewed R r.frames r.slots c.saturating_add-machine.result r.given refl refl R.frames R.full o R.input
-    (c.saturating_add-machine.ensures ∙ ap (λ n. min (n + 1) 18446744073709551615) R.taken ∙ capped_add a.taken 1) R.given))
+    (counted ∙ ap (λ n. min (n + 1) 18446744073709551615) R.taken ∙ capped_add a.taken 1) R.given))
 
 pub returns-in_err-cell-clause-law : goal.returns-in_err-cell-clause-law
 returns-in_err-cell-clause-law g c = λ P Z m₀ K env a e M.

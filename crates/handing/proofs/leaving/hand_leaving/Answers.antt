@@ -46,11 +46,12 @@ returns-clause-law g c = λ P Z m₀ f K env a t H.
           let is = L.given in
           let there = c.in_ok-number.ensures.ok_part in
           let count : c.in_ok-number.number ≡ capped (sizes (trees_in (take n (env ++ kept K)))) = cc in
+          let added : c.saturating_add-machine.result ≡ min (r.given + c.in_ok-number.number) 18446744073709551615 = search c.saturating_add-machine.ensures in
           by_rule (ap (hand_end P Z K a t) q.is)
           (c.finish.ensures.law P Z m₀ m' _ K (drop n env) (gives number a) t
           (left_rests R n (drop n env) number c.cut.new.self c.leave.new.slots c.saturating_add-machine.result S.0 S.1 L c.leave.ensures.room cut.room
           (subst (Waits P cs (names (drop n env)) K) (sym (cut.tops ∙ ap (drop 1) H.stacked)) (subst (λ G. Waits P cs G K H.others) (sym (names_drop n env)) w))
-          (c.saturating_add-machine.ensures ∙ ap (λ x. min (r.given + x) 18446744073709551615) (count ∙ ap capped S.1))))
+          (added ∙ ap (λ x. min (r.given + x) 18446744073709551615) (count ∙ ap capped S.1))))
     ]) H.mirrored
 
 pub returns-in_err-number-clause-body : goal.returns-in_err-number-clause-body
@@ -83,7 +84,8 @@ returns-clause-body g c = λ P Z m₀ f K env a t H.
     let is = L.given in
     let there = c.in_ok-number.ensures.ok_part in
     let count : c.in_ok-number.number ≡ capped (sizes (trees_in (take n es))) = cc in
+    let added : c.saturating_add-machine.result ≡ min (r.given + c.in_ok-number.number) 18446744073709551615 = search c.saturating_add-machine.ensures in
     c.finish.ensures.law P Z m₀ m' _ K outer (gives (environment_size env) a) t
     (left_rests R n outer (environment_size env) c.cut.new.self c.leave.new.slots c.saturating_add-machine.result S.0 S.1 L c.leave.ensures.room cut.room
     (subst (Waits P cs (names outer) K) (sym (cut.tops ∙ ap (drop 1) H.stacked)) w)
-    (c.saturating_add-machine.ensures ∙ ap (λ x. min (r.given + x) 18446744073709551615) (count ∙ ap capped S.1)))) H.mirrored
+    (added ∙ ap (λ x. min (r.given + x) 18446744073709551615) (count ∙ ap capped S.1)))) H.mirrored

@@ -19,4 +19,4 @@ returns-clause-law c = λ P Z m₀ m s K env env' a f e M R O.
     let pushed = c.in_ok-push.ensures in
     let r = c.args.self.now in
     by_rule (waits_fit P Z f e K env' a (omega arith))
-    (c.go.ensures.law P Z m₀ m s _ env' a e (reframed R c.push.new.self pushed.room (subst (Waits P r.script.now.code (names env') _) (sym pushed.tops) (O.waits _ R.frames)) O.same) O.stands)
+    (c.go.ensures.law P Z m₀ m s _ env' a e (reframed R c.push.new.self pushed.room (subst (Waits P r.script.now.code (names env') _) (sym pushed.tops) (O.waits _ R.frames)) O.same) (search O.stands))
