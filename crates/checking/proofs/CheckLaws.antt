@@ -136,8 +136,8 @@ module _ (s : Script) (text : List ℕ) (nodes : List Node) (unchanged : IsUncha
     pub bodies_refused : (r : Refused) → BodiesAnswer script (Err r) → Judges script s (Err r)
     bodies_refused r b = let v = whole_accepted script w.0 ∙ b in record { verdict_is = v; not_allowed = refused_allowed script r v }
 
-    pub bodies_accepted : (code : Compiled) (c : Checked) → BodiesAnswer script (Ok code) → c.code ≡ code → c.text.now ≡ s.text.now → Judges script s (Ok c)
-    bodies_accepted code c b e t = let v = whole_accepted script w.0 ∙ b.0 in record { verdict_is = v; allowed = is_allowed script v; code = e ∙ b.1; text = t }
+    pub bodies_accepted : (code : Compiled) (c : Checked) → BodiesAnswer script (Ok code) → c.code ≡ code → c.text.now ≡ s.text.now → c.counts ≡ s.tables.counts → Judges script s (Ok c)
+    bodies_accepted code c b e t n = let v = whole_accepted script w.0 ∙ b.0 in record { verdict_is = v; allowed = is_allowed script v; code = e ∙ b.1; text = t; counts = n }
 
 -- what is answered of an unchanged text and list
 pub judged_here : (s : Script) (text : List ℕ) (nodes : List Node) (result : Result Checked Refused) → IsUnchanged s text nodes

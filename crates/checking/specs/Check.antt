@@ -18,12 +18,13 @@ pub record IsUnchanged (s : Script) (text : List ℕ) (nodes : List Node) : Type
   pub text_is : text ≡ s.text.now
   pub nodes_are : nodes ≡ left s
 
--- a script is accepted with its code, exactly as the rules allow it; or the first refusal
+-- a script is accepted with its code and the counts of its tables, exactly as the rules allow it; or the first refusal
 pub record Accepts (script : tree.Script) (s : Script) (c : Checked) : Type 0 where
   pub verdict_is : verdict script ≡ accepted
   pub allowed : Allowed script
   pub code : c.code ≡ compiled script
   pub text : c.text.now ≡ s.text.now
+  pub counts : c.counts ≡ s.tables.counts
 
 pub record Refuses (script : tree.Script) (r : Refused) : Type 0 where
   pub verdict_is : verdict script ≡ refused r

@@ -54,4 +54,4 @@ returns c =
     (whole.0, subst (λ x. Known x c.in_ok-globals.globals script) c.text.ensures whole.1) in
     judged_here s c.args.text.now c.args.nodes.now _ here (λ script read entries a.
     bodies_accepted s c.args.text.now c.args.nodes.now here script read entries a c.in_ok-globals.globals (whole_of script read entries a) c.in_ok-code.code _
-    (answer script read entries a (Ok c.in_ok-code.code) c.in_ok-code.ensures) refl c.text-3.ensures)
+    (answer script read entries a (Ok c.in_ok-code.code) c.in_ok-code.ensures) refl c.text-3.ensures (search rules))
