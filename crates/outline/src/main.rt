@@ -1,31 +1,49 @@
-// The program `outline`: prints the tokens of `script.com`, or says in plain words why the text is refused and where.
+// The program `outline`: prints what `script.com` declares and whether it passes the check, or says in plain words why it is refused and
+// where.
 #![tactic(auto)]
 
-mod listing;
-mod sentences;
+mod declared;
+mod size;
+mod types;
 
-use explain::explanation;
+use advice::explain_refusal;
+use checking::check;
+use declared::print_declared;
+use first_uses::explain_check;
 use host::read_script;
-use listing::list_tokens;
-use sentences::text_advice;
+use layout::{NODES, Node};
+use parser::{Script, read};
+use script_refusals::Refused;
 use std::io;
-use text::{Refused, scan};
 
-fn print_refusal(rt: &HostRuntime, script: &[u8], refused: Refused) -> io::Result<()> {
-    let number = refused.refusal.number();
-    rt.print(explanation(
-        rt.alloc(),
-        script,
-        number,
-        refused.place,
-        text_advice(refused),
-    )?)
+// Whether a script passes the check.
+fn print_checked(
+    rt: &HostRuntime,
+    script: &Script<'_>,
+    text: &[u8],
+    nodes: &[Node],
+) -> io::Result<()> {
+    match check(script, text, nodes) {
+        Ok(checked) => {
+            let counts = checked.counts();
+            let functions = script.tables().functions.count;
+            let (nodes, constructors) = (counts.nodes, counts.constructors);
+            println!(rt;
+                "checked: {nodes} nodes, {functions} functions, {constructors} constructors"
+            )
+        }
+        Err(refused) => rt.print(explain_check(rt.alloc(), text, nodes, refused)?),
+    }
 }
 
 fn main(rt: HostRuntime) -> io::Result<()> {
-    let script = read_script(&rt, "script.com")?;
-    match scan(&script) {
-        Ok(count) => list_tokens(&rt, &script, count),
-        Err(refused) => print_refusal(&rt, &script, refused),
+    let text = read_script(&rt, "script.com")?;
+    let mut nodes = vec![in rt.alloc(); Node::UNUSED; NODES]?;
+    match read(&text, &mut nodes) {
+        Ok(script) => {
+            print_declared(&rt, &script)?;
+            print_checked(&rt, &script, &text, &nodes)
+        }
+        Err(refused) => rt.print(explain_refusal(rt.alloc(), &text, Refused::from(refused))?),
     }
 }

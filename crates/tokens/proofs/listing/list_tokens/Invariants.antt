@@ -1,5 +1,5 @@
 use Rattle.std.proofs.Common.{◌≡◌, ◌-◌, length}
-use Rattle.outline.proofs.listing.list_tokens.Given as goal
+use Rattle.tokens.proofs.listing.list_tokens.Given as goal
 
 abbrev pub invariant-loop-token : goal.invariant-loop-token
 invariant-loop-token l = l.reader.text.now ≡ l.text

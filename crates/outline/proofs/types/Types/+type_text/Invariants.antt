@@ -1,5 +1,5 @@
 use Rattle.std.proofs.Common.{◌+◌, ◌*◌}
-use Rattle.declarations.proofs.types.Types.+type_text.Given as goal
+use Rattle.outline.proofs.types.Types.+type_text.Given as goal
 
 abbrev pub decreases-push : goal.decreases-push
 decreases-push l = 2 * l.depth + 0
