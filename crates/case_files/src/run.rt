@@ -106,15 +106,13 @@ impl<'w, T: Trial + Drop> Run<'w, T> {
         if let Some(complaint) = found.complaint {
             println!(rt; "line {line}: wrong, {complaint}")?;
         }
+        let listing = found.listing.as_str();
         match found.answer {
-            Ok(count) => {
-                let listing = found.listing.as_str();
-                println!(rt; "line {line}: wrong, found accepted {count}\n{listing}")
-            }
+            Ok(count) => println!(rt; "line {line}: wrong, found accepted {count}\n{listing}"),
             Err(refused) => {
                 let number = refused.number;
                 let place = refused.place;
-                println!(rt; "line {line}: wrong, found refused {number} {place}")
+                println!(rt; "line {line}: wrong, found refused {number} {place}\n{listing}")
             }
         }
     }

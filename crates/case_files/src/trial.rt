@@ -6,7 +6,7 @@ use std::alloc::{AllocError, Global};
 #[derive(Drop)]
 pub struct Found {
     pub answer: Answer,
-    // a line for each token, node or entry; empty where the text is refused
+    // what the lines of a listing are compared with: a line for each token, node or entry, or what is said of a refusal
     pub listing: String,
     // what is wrong beside the answer
     pub complaint: Option<&'static str>,

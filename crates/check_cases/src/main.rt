@@ -1,8 +1,9 @@
 // The cases of the check: gives each text of `cases.txt` to `read` and to `check` and compares with the answer that stands beside it. An
 // accepted script has so many defines and vals.
 //
-// The file reads as `case_files` says, with two words more:
+// The file reads as `case_files` says, with three words more:
 //
+//   row LINE                        a line of the explanation of a refusal of the check, where a case says how it reads
 //   lent N                          the node list has N entries; 4096 where a case does not say
 //   changed text|nodes              the check is handed another text, or a node list whose first entry is another
 //

@@ -1,6 +1,7 @@
 // What the check finds of the text of a case.
 use case_files::{Answer, Found, Refused, Trial};
 use checking::check;
+use first_uses::explain_check;
 use layout::{NODES, Node, NodeForm};
 use parser::{Script, read};
 use std::alloc::{AllocError, Global};
@@ -35,29 +36,55 @@ impl Scripts {
     }
 }
 
-// What the check answers: how many defines and vals there are, or the refusal by its number.
-fn checked(script: &Script<'_>, text: &[u8], nodes: &[Node]) -> Answer {
+// What the check answers: how many defines and vals there are, or the refusal, whose explanation is the listing.
+fn checked(
+    heap: Global,
+    script: &Script<'_>,
+    text: &[u8],
+    nodes: &[Node],
+) -> Result<Found, AllocError> {
     match check(script, text, nodes) {
-        Ok(checked) => Ok(checked.counts().bindings),
-        Err(refused) => Err(Refused {
-            number: refused.refusal.number(),
-            place: refused.place,
+        Ok(checked) => Ok(found(heap, Ok(checked.counts().bindings))),
+        Err(refused) => Ok(Found {
+            answer: Err(Refused {
+                number: refused.refusal.number(),
+                place: refused.place,
+            }),
+            listing: explain_check(heap, text, nodes, refused)?,
+            complaint: None,
         }),
     }
 }
 
+// An answer without a listing.
+fn found(heap: Global, answer: Answer) -> Found {
+    Found {
+        answer,
+        listing: String::new(heap),
+        complaint: None,
+    }
+}
+
 // What reading and the check answer of a text.
-fn answer(text: &[u8], nodes: &mut [Node], changed: Option<Change>) -> Answer {
-    let script = read(text, nodes)?;
+fn judged(
+    heap: Global,
+    text: &[u8],
+    nodes: &mut [Node],
+    changed: Option<Change>,
+) -> Result<Found, AllocError> {
+    let script = match read(text, nodes) {
+        Ok(script) => script,
+        Err(refused) => return Ok(found(heap, Err(Refused::from(refused)))),
+    };
     if changed == Some(Change::Text) {
-        return checked(&script, b"", nodes);
+        return checked(heap, &script, b"", nodes);
     }
     if changed == Some(Change::Nodes) {
         if let Some(node) = nodes.first_mut() {
             *node = OTHER;
         }
     }
-    checked(&script, text, nodes)
+    checked(heap, &script, text, nodes)
 }
 
 impl Trial for Scripts {
@@ -80,10 +107,6 @@ impl Trial for Scripts {
         let mut nodes = vec![in heap; Node::UNUSED; self.lent]?;
         let changed = self.changed;
         *self = Scripts::new();
-        Ok(Found {
-            answer: answer(text, &mut nodes, changed),
-            listing: String::new(heap),
-            complaint: None,
-        })
+        judged(heap, text, &mut nodes, changed)
     }
 }
