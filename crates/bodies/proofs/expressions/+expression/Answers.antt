@@ -1,6 +1,6 @@
 use Rattle.bodies.proofs.ApplyLaws.{arguments_ended, arguments_stopped, arguments_went, apply_by_parts, construct_stopped, construct_unlike, construct_built, call_stopped, call_later_stopped, call_unlike, call_judged}
 use Rattle.bodies.proofs.CaseLaws.{ok_or_is, pattern_stopped, pattern_went, arms_stopped, arms_last, arms_later, arms_went, case_stopped, case_plain, case_branches_stopped, case_went}
-use Rattle.bodies.proofs.DeskLaws.{grown_self, by_refusal, by_guard}
+use Rattle.bodies.proofs.DeskLaws.{marked_as, grown_self, by_refusal, by_guard}
 use Rattle.bodies.proofs.IfLaws.{test_refused, test_other, first_refused, second_refused, arms_unlike, arms_judged}
 use Rattle.bodies.proofs.LetLaws.{body_found, here, bound_stopped, name_refused, name_went, let_stopped, let_went}
 use Rattle.bodies.proofs.LiteralLaws.{no_expression, literal_judged, an_integer, a_symbol, a_boolean, a_unit}
@@ -8,16 +8,16 @@ use Rattle.bodies.proofs.RowLaws.{RowAnswers, row_ended, row_stopped, row_went, 
 use Rattle.bodies.proofs.TypeLaws.{same_in}
 use Rattle.bodies.proofs.expressions.+expression.Goals.{call-in_default-via-in-Some+else-fit, call-in_default-via-in_default}
 use Rattle.bodies.specs.Heads.{OnHead}
-use Rattle.bodies.specs.Parts.{OnExpr, OnBindings, BindingsAnswers, ArmsAnswers, ArgumentsAnswers}
+use Rattle.bodies.specs.Parts.{OnExpr, OnArms, OnBindings, BindingsAnswers, ArmsAnswers, ArgumentsAnswers}
 use Rattle.grammar.specs.Trees.{apply_expr}
 use Rattle.layout.specs.Decoding.{node_found}
 use Rattle.layout.specs.declared.node.Node.{Node}
 use Rattle.naming.specs.Binding.{OnPattern}
-use Rattle.naming.specs.Judges.{desk, Coded, Desk, ExprAnswers, text_of}
+use Rattle.naming.specs.Judges.{desk, Coded, Desk, Kept, ExprAnswers, text_of}
 use Rattle.program.specs.Compiling.{code}
 use Rattle.std.proofs.Common.{slice_set, max, min, ◌≡◌, ◌+◌, ◌-◌, ◌<◌, Some, None, Ok, Err, Option, Result, sym, refl, ap, ◌∙◌, subst, arith, rules, false, ◌&&◌}
 use Rattle.std.proofs.lemmas.Int.{to_z-of_z}
-use Rattle.std.specs.Prelude.{nat_le}
+use Rattle.std.specs.Prelude.{ℕ, ◌||◌, nat_le, slice_index_or}
 use Rattle.type_rows.specs.Rows.{row_at}
 use Rattle.type_rows.specs.declared.value_type.ValueType.{ValueType}
 use mir.Syntax.{w32}
@@ -70,8 +70,9 @@ if_form-returns-in_err-expression-clause-answers t c script e set ready stands =
     let d1 = desk c.expression.new.scope c.expression.new.locals in
     let r = c.in_err-expression.field-0.0 in
     let left : c.from_residual.result ≡ Err r = search rules in
+    let tested : OnExpr world (c.args.i + 1) c.args.height d0 c.note.new.codes (Err r) d1 c.expression.new.codes = search rules in
     subst (λ x. ExprAnswers world script e c.args.i c.args.height d0 c.args.codes.now x d1 c.expression.new.codes) (sym left)
-    (test_refused world script set c.args.i c.args.height node is d0 ready c.note.new.codes d1 c.expression.new.codes r stands c.in_err-expression.ensures.answers)
+    (test_refused world script set c.args.i c.args.height node is d0 ready c.note.new.codes d1 c.expression.new.codes r stands tested)
 
 pub if_form-returns-in_default : goal.if_form-returns-in_default
 if_form-returns-in_default t c = record {
@@ -111,8 +112,9 @@ if_form-returns-in_err-other-clause-answers t c script e set ready stands =
     let test = subst (λ k. OnExpr world (c.args.i + 1) c.args.height d0 c.note.new.codes (Ok k) d1 c.expression.new.codes) c.in-Bool.is c.in_ok-expression.ensures.answers in
     let r = c.in_err-other.field-0.0 in
     let left : c.from_residual-in_err-other.result ≡ Err r = search rules in
+    let second : OnExpr world c.after-second.result c.args.height (marked_as d2 d1.marks) c.expression-2.new.codes (Err r) d3 c.expression-3.new.codes = search rules in
     subst (λ x. ExprAnswers world script e c.args.i c.args.height d0 c.args.codes.now x d3 c.expression-3.new.codes) (sym left)
-    (second_refused world script set c.args.i c.args.height node is d0 ready c.note.new.codes d1 c.expression.new.codes test c.in_ok-expression.ensures.kept c.after-first.result c.after-first.ensures.value d2 c.expression-2.new.codes c.in_ok-kind.kind c.in_ok-kind.ensures.answers c.in_ok-kind.ensures.kept c.after-second.result c.after-second.ensures.value d3 c.expression-3.new.codes r stands c.in_err-other.ensures.answers)
+    (second_refused world script set c.args.i c.args.height node is d0 ready c.note.new.codes d1 c.expression.new.codes test c.in_ok-expression.ensures.kept c.after-first.result c.after-first.ensures.value d2 c.expression-2.new.codes c.in_ok-kind.kind c.in_ok-kind.ensures.answers c.in_ok-kind.ensures.kept c.after-second.result c.after-second.ensures.value d3 c.expression-3.new.codes r stands second)
 
 pub if_form-returns-clause-answers : goal.if_form-returns-clause-answers
 if_form-returns-clause-answers t c script e set ready stands =
@@ -124,7 +126,9 @@ if_form-returns-clause-answers t c script e set ready stands =
     let d2 = desk c.expression-2.new.scope c.expression-2.new.locals in
     let d3 = desk c.expression-3.new.scope c.expression-3.new.locals in
     let test = subst (λ k. OnExpr world (c.args.i + 1) c.args.height d0 c.note.new.codes (Ok k) d1 c.expression.new.codes) c.in-Bool.is c.in_ok-expression.ensures.answers in
-    arms_unlike world script set c.args.i c.args.height node is d0 ready c.note.new.codes d1 c.expression.new.codes test c.in_ok-expression.ensures.kept c.after-first.result c.after-first.ensures.value d2 c.expression-2.new.codes c.in_ok-kind.kind c.in_ok-kind.ensures.answers c.in_ok-kind.ensures.kept c.after-second.result c.after-second.ensures.value d3 c.expression-3.new.codes c.in_ok-other.other c.in_ok-other.ensures.kept c.mismatch-2.result stands c.in_ok-other.ensures.answers
+    let second : OnExpr world c.after-second.result c.args.height (marked_as d2 d1.marks) c.expression-2.new.codes (Ok c.in_ok-other.other) d3 c.expression-3.new.codes = search rules in
+    let kept : Kept (marked_as d2 d1.marks) d3 = search rules in
+    arms_unlike world script set c.args.i c.args.height node is d0 ready c.note.new.codes d1 c.expression.new.codes test c.in_ok-expression.ensures.kept c.after-first.result c.after-first.ensures.value d2 c.expression-2.new.codes c.in_ok-kind.kind c.in_ok-kind.ensures.answers c.in_ok-kind.ensures.kept c.after-second.result c.after-second.ensures.value d3 c.expression-3.new.codes c.in_ok-other.other kept c.mismatch-2.result stands second
     (λ va vb. sym c.if-same.false ∙ same_in world script set c.rows.result.now c.rows.ensures c.in_ok-kind.kind c.in_ok-other.other c.same.result c.same.ensures va vb) c.mismatch-2.ensures
 
 pub if_form-returns-then-same-clause-answers : goal.if_form-returns-then-same-clause-answers
@@ -137,8 +141,11 @@ if_form-returns-then-same-clause-answers t c script e set ready stands =
     let d2 = desk c.expression-2.new.scope c.expression-2.new.locals in
     let d3 = desk c.expression-3.new.scope c.expression-3.new.locals in
     let test = subst (λ k. OnExpr world (c.args.i + 1) c.args.height d0 c.note.new.codes (Ok k) d1 c.expression.new.codes) c.in-Bool.is c.in_ok-expression.ensures.answers in
-    arms_judged world script set c.args.i c.args.height node is d0 ready c.note.new.codes d1 c.expression.new.codes test c.in_ok-expression.ensures.kept c.after-first.result c.after-first.ensures.value d2 c.expression-2.new.codes c.in_ok-kind.kind c.in_ok-kind.ensures.answers c.in_ok-kind.ensures.kept c.after-second.result c.after-second.ensures.value d3 c.expression-3.new.codes c.in_ok-other.other c.in_ok-other.ensures.kept c.args.codes.now c.join.new.marks stands c.in_ok-other.ensures.answers c.note.ensures
-    (λ va vb. sym c.if-same.true ∙ same_in world script set c.rows.result.now c.rows.ensures c.in_ok-kind.kind c.in_ok-other.other c.same.result c.same.ensures va vb) c.join.ensures
+    let second : OnExpr world c.after-second.result c.args.height (marked_as d2 d1.marks) c.expression-2.new.codes (Ok c.in_ok-other.other) d3 c.expression-3.new.codes = search rules in
+    let kept : Kept (marked_as d2 d1.marks) d3 = search rules in
+    let joined : (k : ℕ) → slice_index_or c.join.new.marks k false ≡ (slice_index_or d3.marks k false || slice_index_or d2.marks k false) = search rules in
+    arms_judged world script set c.args.i c.args.height node is d0 ready c.note.new.codes d1 c.expression.new.codes test c.in_ok-expression.ensures.kept c.after-first.result c.after-first.ensures.value d2 c.expression-2.new.codes c.in_ok-kind.kind c.in_ok-kind.ensures.answers c.in_ok-kind.ensures.kept c.after-second.result c.after-second.ensures.value d3 c.expression-3.new.codes c.in_ok-other.other kept c.args.codes.now c.join.new.marks stands second c.note.ensures
+    (λ va vb. sym c.if-same.true ∙ same_in world script set c.rows.result.now c.rows.ensures c.in_ok-kind.kind c.in_ok-other.other c.same.result c.same.ensures va vb) joined
 
 pub begin_form-returns-in_err-kind-clause-answers : goal.begin_form-returns-in_err-kind-clause-answers
 begin_form-returns-in_err-kind-clause-answers t c script e set ready stands =
@@ -311,8 +318,9 @@ arms-returns-in_err-others-clause-answers t c script bs set ready b =
     let d2 = desk c.arms.new.scope c.arms.new.locals in
     let r = c.in_err-others.field-0.0 in
     let left : c.from_residual-in_err-others.result ≡ Err r = search rules in
+    let others : OnArms world c.after-next.result c.args.past c.args.datatype c.args.height (marked_as d1 d0.marks) c.arm.new.codes (Err r) d2 c.arms.new.codes = search rules in
     subst (λ x. ArmsAnswers world script c.args.datatype bs c.args.i c.args.height d0 c.args.codes.now x d2 c.arms.new.codes) (sym left)
-    (arms_later world script set c.args.i c.args.past c.args.height c.args.datatype d0 ready c.args.codes.now c.after-next.result c.after-next.ensures.value c.in_ok-kind.kind d1 c.arm.new.codes c.in_ok-kind.ensures.answers c.in_ok-kind.ensures.kept bs r d2 c.arms.new.codes b (omega (arith, c.if-next-past.false)) c.in_err-others.ensures.answers)
+    (arms_later world script set c.args.i c.args.past c.args.height c.args.datatype d0 ready c.args.codes.now c.after-next.result c.after-next.ensures.value c.in_ok-kind.kind d1 c.arm.new.codes c.in_ok-kind.ensures.answers c.in_ok-kind.ensures.kept bs r d2 c.arms.new.codes b (omega (arith, c.if-next-past.false)) others)
 
 pub arms-returns-clause-answers : goal.arms-returns-clause-answers
 arms-returns-clause-answers t c script bs set ready b =
@@ -320,7 +328,10 @@ arms-returns-clause-answers t c script bs set ready b =
     let d0 = desk c.args.scope.now c.args.locals.now in
     let d1 = desk c.arm.new.scope c.arm.new.locals in
     let d2 = desk c.arms.new.scope c.arms.new.locals in
-    arms_went world script set c.args.i c.args.past c.args.height c.args.datatype d0 ready c.args.codes.now c.after-next.result c.after-next.ensures.value c.in_ok-kind.kind d1 c.arm.new.codes c.in_ok-kind.ensures.answers c.in_ok-kind.ensures.kept bs c.in_ok-others.others c.alike.result d2 c.arms.new.codes c.join.new.marks b (omega (arith, c.if-next-past.false)) c.in_ok-others.ensures.answers c.in_ok-others.ensures.kept c.join.ensures c.alike.ensures
+    let others : OnArms world c.after-next.result c.args.past c.args.datatype c.args.height (marked_as d1 d0.marks) c.arm.new.codes (Ok c.in_ok-others.others) d2 c.arms.new.codes = search rules in
+    let kept : Kept (marked_as d1 d0.marks) d2 = search rules in
+    let joined : (k : ℕ) → slice_index_or c.join.new.marks k false ≡ (slice_index_or d2.marks k false || slice_index_or d1.marks k false) = search rules in
+    arms_went world script set c.args.i c.args.past c.args.height c.args.datatype d0 ready c.args.codes.now c.after-next.result c.after-next.ensures.value c.in_ok-kind.kind d1 c.arm.new.codes c.in_ok-kind.ensures.answers c.in_ok-kind.ensures.kept bs c.in_ok-others.others c.alike.result d2 c.arms.new.codes c.join.new.marks b (omega (arith, c.if-next-past.false)) others kept joined c.alike.ensures
 
 pub arm-returns-in_err-pattern-clause-answers : goal.arm-returns-in_err-pattern-clause-answers
 arm-returns-in_err-pattern-clause-answers t c script p x e set ready stands =
@@ -352,7 +363,8 @@ let_form-returns-in_err-body-clause-answers t c script e set ready stands =
     let d1 = desk c.bindings.new.scope c.bindings.new.locals in
     let r = c.in_err-body.field-0.0 in
     let left : c.from_residual.result ≡ Err r = search rules in
-    let part = subst (λ s. OnBindings world (c.args.i + 1) c.args.height (desk s c.args.locals.now) c.args.codes.now (Err r) d1 c.bindings.new.codes) c.new-guard.ensures.scope c.in_err-body.ensures.answers in
+    let bound : OnBindings world (c.args.i + 1) c.args.height (desk c.new-guard.result.scope.now c.args.locals.now) c.args.codes.now (Err r) d1 c.bindings.new.codes = search rules in
+    let part = subst (λ s. OnBindings world (c.args.i + 1) c.args.height (desk s c.args.locals.now) c.args.codes.now (Err r) d1 c.bindings.new.codes) c.new-guard.ensures.scope bound in
     by_refusal world script _ _ _ _ _ _ _ _ _ r left (let_stopped world script set c.args.i c.args.height (node_found world.nodes.now c.args.i) refl d0 ready c.args.codes.now r d1 c.bindings.new.codes stands part)
 
 pub let_form-returns-clause-answers : goal.let_form-returns-clause-answers
@@ -362,7 +374,8 @@ let_form-returns-clause-answers t c script e set ready stands =
     let d1 = desk c.bindings.new.scope c.bindings.new.locals in
     let d2 = desk c.expression.new.scope c.expression.new.locals in
     let node = c.node_at.result in
-    let part = subst (λ s. OnBindings world (c.args.i + 1) c.args.height (desk s c.args.locals.now) c.args.codes.now (Ok c.in_ok-body.body) d1 c.bindings.new.codes) c.new-guard.ensures.scope c.in_ok-body.ensures.answers in
+    let bound : OnBindings world (c.args.i + 1) c.args.height (desk c.new-guard.result.scope.now c.args.locals.now) c.args.codes.now (Ok c.in_ok-body.body) d1 c.bindings.new.codes = search rules in
+    let part = subst (λ s. OnBindings world (c.args.i + 1) c.args.height (desk s c.args.locals.now) c.args.codes.now (Ok c.in_ok-body.body) d1 c.bindings.new.codes) c.new-guard.ensures.scope bound in
     by_guard world script _ _ _ _ _ _ _ _ _ d2 (search rules) (search rules) refl
     (let_went world script set c.args.i c.args.height node c.node_at.ensures d0 ready c.args.codes.now c.in_ok-body.body c.bound-bound.result c.saturating_add.result d1 d2 c.bindings.new.codes c.note.new.codes c.expression.new.codes c.expression.result stands part
     (c.bound-bound.ensures ∙ ap (λ n. c.bindings.new.scope.depth - n) c.new-guard.ensures.depth) (λ h few. omega (arith, c.saturating_add.ensures)) c.min.result (λ few. omega (arith, c.min.ensures)) c.note.ensures c.expression.ensures.answers c.expression.ensures.kept)
@@ -373,7 +386,8 @@ expression-returns-in-Unused-clause-answers t c script e set ready stands =
 
 pub arguments-returns-then-i-past-clause-answers : goal.arguments-returns-then-i-past-clause-answers
 arguments-returns-then-i-past-clause-answers t c script es set ready stands =
-    arguments_ended c.args.world.now script set c.args.i c.args.past c.args.row c.args.last c.args.height (omega arith) (desk c.args.scope.now c.args.locals.now) ready c.args.codes.now es (nat_le c.args.last c.args.row) stands c.if-i-past.true refl
+    let fitted = arguments_ended c.args.world.now script set c.args.i c.args.past c.args.row c.args.last c.args.height (omega arith) (desk c.args.scope.now c.args.locals.now) ready c.args.codes.now es (nat_le c.args.last c.args.row) stands c.if-i-past.true refl in
+    search rules
 
 pub arguments-returns-in_err-kind-clause-answers : goal.arguments-returns-in_err-kind-clause-answers
 arguments-returns-in_err-kind-clause-answers t c script es set ready stands =
@@ -401,22 +415,24 @@ arguments-returns-then-fit-clause-answers t c script es set ready stands =
     let world = c.args.world.now in
     let old = desk c.args.scope.now c.args.locals.now in
     let others = c.in_ok-others.others in
-    arguments_went world script set c.args.i c.args.past c.args.row c.args.last c.args.height (omega arith) old ready c.args.codes.now es c.in_ok-kind.kind (desk c.expression.new.scope c.expression.new.locals) c.expression.new.codes
+    let fitted = arguments_went world script set c.args.i c.args.past c.args.row c.args.last c.args.height (omega arith) old ready c.args.codes.now es c.in_ok-kind.kind (desk c.expression.new.scope c.expression.new.locals) c.expression.new.codes
     stands c.if-i-past.false c.in_ok-kind.ensures.answers c.in_ok-kind.ensures.kept c.after.result c.after.ensures.value c.row.result.past c.saturating_add.result
     (ap (λ row. row.past) c.row.ensures ∙ ap (λ rows. (row_at rows.rows c.args.row).past) c.rows-rows.ensures) (λ h. omega (arith, c.saturating_add.ensures))
     c.is_next-fit.result (rw c.rows-rows.ensures at c.is_next-fit.ensures) (Ok others) (Ok others) (desk c.arguments.new.scope c.arguments.new.locals) c.arguments.new.codes c.in_ok-others.ensures.answers
-    (ap (λ b. Ok (b && others)) (sym c.if-fit.true))
+    (ap (λ b. Ok (b && others)) (sym c.if-fit.true)) in
+    search rules
 
 pub arguments-returns-else-fit-clause-answers : goal.arguments-returns-else-fit-clause-answers
 arguments-returns-else-fit-clause-answers t c script es set ready stands =
     let world = c.args.world.now in
     let old = desk c.args.scope.now c.args.locals.now in
     let others = c.in_ok-others.others in
-    arguments_went world script set c.args.i c.args.past c.args.row c.args.last c.args.height (omega arith) old ready c.args.codes.now es c.in_ok-kind.kind (desk c.expression.new.scope c.expression.new.locals) c.expression.new.codes
+    let fitted = arguments_went world script set c.args.i c.args.past c.args.row c.args.last c.args.height (omega arith) old ready c.args.codes.now es c.in_ok-kind.kind (desk c.expression.new.scope c.expression.new.locals) c.expression.new.codes
     stands c.if-i-past.false c.in_ok-kind.ensures.answers c.in_ok-kind.ensures.kept c.after.result c.after.ensures.value c.row.result.past c.saturating_add.result
     (ap (λ row. row.past) c.row.ensures ∙ ap (λ rows. (row_at rows.rows c.args.row).past) c.rows-rows.ensures) (λ h. omega (arith, c.saturating_add.ensures))
     c.is_next-fit.result (rw c.rows-rows.ensures at c.is_next-fit.ensures) (Ok others) (Ok c.is_next-fit.result) (desk c.arguments.new.scope c.arguments.new.locals) c.arguments.new.codes c.in_ok-others.ensures.answers
-    (ap Ok c.if-fit.false ∙ ap (λ b. Ok (b && others)) (sym c.if-fit.false))
+    (ap Ok c.if-fit.false ∙ ap (λ b. Ok (b && others)) (sym c.if-fit.false)) in
+    search rules
 
 pub apply_form-returns-in-Some-clause-answers : goal.apply_form-returns-in-Some-clause-answers
 apply_form-returns-in-Some-clause-answers t c script e set ready stands =
@@ -453,9 +469,10 @@ pub construct-returns-clause-answers : goal.construct-returns-clause-answers
 construct-returns-clause-answers t c script p e es set ready stands named =
     let world = c.args.world.now in
     let old = desk c.args.scope.now c.args.locals.now in
-    construct_built world script set c.args.i c.args.height c.node_at-node.result c.node_at-node.ensures (omega (arith, c.node_at-node.type_inv)) c.after.result c.after.ensures.value old ready p e es stands
+    let built = construct_built world script set c.args.i c.args.height c.node_at-node.result c.node_at-node.ensures (omega (arith, c.node_at-node.type_inv)) c.after.result c.after.ensures.value old ready p e es stands
     c.args.k named c.variant-variant.result (λ w h. c.variant-variant.ensures (text_of world script) script w set.known h) c.note.new.codes (desk c.arguments.new.scope c.arguments.new.locals) c.arguments.new.codes
-    c.in_ok-fit.fit c.node_at.result c.args.codes.now c.note-2.new.codes c.in_ok-fit.ensures.answers c.if-not-fit.false c.node_at.ensures c.note.ensures c.note-2.ensures
+    c.in_ok-fit.fit c.node_at.result c.args.codes.now c.note-2.new.codes c.in_ok-fit.ensures.answers c.if-not-fit.false c.node_at.ensures c.note.ensures c.note-2.ensures in
+    search rules
 
 pub call-returns-in_err-kind-clause-answers : goal.call-returns-in_err-kind-clause-answers
 call-returns-in_err-kind-clause-answers t c script p e es set ready stands named =
