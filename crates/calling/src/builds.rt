@@ -47,7 +47,7 @@ fn gather(slots: &Stack<'_, Slot>, held: usize, last: Value) -> Option<[Value; 6
 
 // With so many arguments held and the last one: they become the fields of a new cell.
 pub fn build_last<S: CellStore>(
-    machine: &mut Machine<'_>,
+    machine: &mut Machine<'_, '_>,
     store: &mut S,
     constructor: u16,
     held: usize,

@@ -36,7 +36,7 @@ fn count_of(held: Held) -> usize
 }
 
 // A define is called: its arguments become its names, in the same entries, and its body is next.
-fn enter_body(machine: &mut Machine<'_>, at: u16, number: usize) -> Result<(), FaultKind>
+fn enter_body(machine: &mut Machine<'_, '_>, at: u16, number: usize) -> Result<(), FaultKind>
     ensures steady { Steady machine.old machine.new }
     ensures law { (P : Program) (Z : Sizes) (m₀ m : Cells) (s : State) (k : ℕ) (K : List Waits) (env : Environment) (a : Account) (p : ℕ) (d : Define)
         → Ripe P Z m₀ k K env a machine.old m → PlacedAt P machine.old.script.now.code at p → slice_get P.defines number ≡ Some d
@@ -49,7 +49,7 @@ fn enter_body(machine: &mut Machine<'_>, at: u16, number: usize) -> Result<(), F
 
 // A function without arguments is called.
 pub fn call_bare(
-    machine: &mut Machine<'_>,
+    machine: &mut Machine<'_, '_>,
     out: &mut [u8],
     at: u16,
     function: u32,
@@ -69,7 +69,7 @@ pub fn call_bare(
 
 // A function is called with the arguments held and the last one.
 pub fn call(
-    machine: &mut Machine<'_>,
+    machine: &mut Machine<'_, '_>,
     out: &mut [u8],
     at: u16,
     function: u32,

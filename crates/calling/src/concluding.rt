@@ -20,7 +20,7 @@ use machine::{Control, Halt, Machine, unprinted};
 use rules::FaultKind;
 
 // Its value is finished.
-fn give(machine: &mut Machine<'_>, count: usize, value: Value) -> Result<(), FaultKind>
+fn give(machine: &mut Machine<'_, '_>, count: usize, value: Value) -> Result<(), FaultKind>
     ensures steady { Steady machine.old machine.new }
     ensures law { (P : Program) (Z : Sizes) (m₀ m : Cells) (s : State) (K : List Waits) (env : Environment) (a : Account) (t : Tree)
         → Under P Z m₀ count K env a machine.old m → Plain value t
@@ -31,7 +31,7 @@ fn give(machine: &mut Machine<'_>, count: usize, value: Value) -> Result<(), Fau
 }
 
 // Its value is the next byte of the input, or -1 at the end.
-fn take_byte(machine: &mut Machine<'_>, count: usize) -> Result<(), FaultKind>
+fn take_byte(machine: &mut Machine<'_, '_>, count: usize) -> Result<(), FaultKind>
     ensures steady { Steady machine.old machine.new }
     ensures law { (P : Program) (Z : Sizes) (m₀ m : Cells) (s : State) (K : List Waits) (env : Environment) (a : Account)
         → Under P Z m₀ count K env a machine.old m
@@ -45,7 +45,7 @@ fn take_byte(machine: &mut Machine<'_>, count: usize) -> Result<(), FaultKind>
 }
 
 // It prints, and its value is unit.
-fn put(machine: &mut Machine<'_>, out: &mut [u8], count: usize, print: Print) -> Result<usize, Halt>
+fn put(machine: &mut Machine<'_, '_>, out: &mut [u8], count: usize, print: Print) -> Result<usize, Halt>
     ensures steady { Steady machine.old machine.new }
     ensures spares { Spares result out.old out.new }
     ensures law { (P : Program) (Z : Sizes) (m₀ m : Cells) (s : State) (K : List Waits) (env : Environment) (a : Account)
@@ -61,7 +61,7 @@ fn put(machine: &mut Machine<'_>, out: &mut [u8], count: usize, print: Print) ->
 
 // By what the call comes to; so many arguments lie on the slots.
 pub fn conclude(
-    machine: &mut Machine<'_>,
+    machine: &mut Machine<'_, '_>,
     out: &mut [u8],
     basis: Basis,
     count: usize,

@@ -23,7 +23,7 @@ use rules::FaultKind;
 
 // A constructor without fields is done at once: it takes a cell.
 fn build_bare<S: CellStore>(
-    machine: &mut Machine<'_>,
+    machine: &mut Machine<'_, '_>,
     store: &mut S,
     constructor: u16,
 ) -> Result<(), FaultKind>
@@ -39,7 +39,7 @@ fn build_bare<S: CellStore>(
 
 // With fields it waits for the first of them; its name at the head is not entered.
 pub fn enter_build<S: CellStore>(
-    machine: &mut Machine<'_>,
+    machine: &mut Machine<'_, '_>,
     store: &mut S,
     at: u16,
     constructor: u16,

@@ -19,7 +19,7 @@ use rules::FaultKind;
 
 // The expression at this node is entered.
 pub fn enter<S: CellStore>(
-    machine: &mut Machine<'_>,
+    machine: &mut Machine<'_, '_>,
     store: &mut S,
     at: u16,
 ) -> Result<(), FaultKind>

@@ -30,7 +30,7 @@ fn left(value: Value) -> Slot
 }
 
 // A local name: its value is finished, and data leaves it empty.
-pub fn enter_local(machine: &mut Machine<'_>, depth: u16) -> Result<(), FaultKind>
+pub fn enter_local(machine: &mut Machine<'_, '_>, depth: u16) -> Result<(), FaultKind>
     ensures steady { Steady machine.old machine.new }
     ensures law { (P : Program) (Z : Sizes) (m₀ m : Cells) (K : List Waits) (env : Environment) (a : Account) (e : Expr) (w : Name) (p : ℕ)
         → Mirrors P Z m₀ (st K env (enters e) a) machine.old m → distance w (names env) ≡ Some depth
@@ -43,7 +43,7 @@ pub fn enter_local(machine: &mut Machine<'_>, depth: u16) -> Result<(), FaultKin
 
 // A deep copy of a local name's value: one cell for each constructor.
 pub fn enter_dup<S: CellStore>(
-    machine: &mut Machine<'_>,
+    machine: &mut Machine<'_, '_>,
     store: &mut S,
     depth: u16,
 ) -> Result<(), FaultKind>
@@ -61,7 +61,7 @@ pub fn enter_dup<S: CellStore>(
 }
 
 // A val's name waits for the val's expression, which has no entries.
-pub fn enter_val(machine: &mut Machine<'_>, at: u16, number: u16) -> Result<(), FaultKind>
+pub fn enter_val(machine: &mut Machine<'_, '_>, at: u16, number: u16) -> Result<(), FaultKind>
     ensures steady { Steady machine.old machine.new }
     ensures law { (P : Program) (Z : Sizes) (m₀ m : Cells) (K : List Waits) (env : Environment) (a : Account) (e : Expr) (p : ℕ)
         → Mirrors P Z m₀ (st K env (enters e) a) machine.old m → PlacedAt P machine.old.script.now.code at p

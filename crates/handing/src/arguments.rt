@@ -29,7 +29,7 @@ fn one_more(held: Held) -> Held
 
 // The function at the head: the first argument is next, or the call.
 pub fn hand_head(
-    machine: &mut Machine<'_>,
+    machine: &mut Machine<'_, '_>,
     out: &mut [u8],
     at: u16,
     value: Value,
@@ -57,7 +57,7 @@ pub fn hand_head(
 
 // An argument: it is held, and the next one comes, or the call.
 pub fn hand_argument(
-    machine: &mut Machine<'_>,
+    machine: &mut Machine<'_, '_>,
     out: &mut [u8],
     at: u16,
     next: u16,
@@ -88,7 +88,7 @@ pub fn hand_argument(
 
 // An argument of a constructor: it is held, and the next one comes, or the data is built.
 pub fn hand_field<S: CellStore>(
-    machine: &mut Machine<'_>,
+    machine: &mut Machine<'_, '_>,
     store: &mut S,
     at: u16,
     next: u16,

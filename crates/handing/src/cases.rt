@@ -26,7 +26,7 @@ use rules::FaultKind;
 
 // A branch whose pattern is a wildcard: the whole value is dropped.
 fn take_any<S: CellStore>(
-    machine: &mut Machine<'_>,
+    machine: &mut Machine<'_, '_>,
     store: &mut S,
     at: u16,
     branch: u16,
@@ -46,7 +46,7 @@ fn take_any<S: CellStore>(
 
 // A branch for the constructor: the tested cell is given back, and its fields are bound or dropped.
 fn take_fields<S: CellStore>(
-    machine: &mut Machine<'_>,
+    machine: &mut Machine<'_, '_>,
     store: &mut S,
     at: u16,
     branch: u16,
@@ -75,7 +75,7 @@ fn take_fields<S: CellStore>(
 
 // The tested value of a case: the first branch that fits is taken.
 pub fn hand_tested<S: CellStore>(
-    machine: &mut Machine<'_>,
+    machine: &mut Machine<'_, '_>,
     store: &mut S,
     at: u16,
     value: Value,

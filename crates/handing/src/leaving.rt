@@ -53,7 +53,7 @@ pub fn leave<S: CellStore>(slots: &mut Stack<'_, Slot>, store: &mut S, count: u1
 
 // The value of a let, a branch or a function's body: its names leave, and what waited has that value. A val name has none.
 pub fn hand_leaving<S: CellStore>(
-    machine: &mut Machine<'_>,
+    machine: &mut Machine<'_, '_>,
     store: &mut S,
     at: u16,
     count: u16,
@@ -75,7 +75,7 @@ pub fn hand_leaving<S: CellStore>(
 
 // Main's value is dropped, and the run has ended.
 pub fn hand_main<S: CellStore>(
-    machine: &mut Machine<'_>,
+    machine: &mut Machine<'_, '_>,
     store: &mut S,
     value: Value,
 ) -> Result<(), FaultKind>

@@ -16,7 +16,7 @@ use machine::{Frame, Machine, Slot, bind_next, code_at};
 use rules::FaultKind;
 
 // The test of an if: the arm chosen is next.
-pub fn hand_test(machine: &mut Machine<'_>, at: u16, value: Value) -> Result<(), FaultKind>
+pub fn hand_test(machine: &mut Machine<'_, '_>, at: u16, value: Value) -> Result<(), FaultKind>
     ensures steady { Steady machine.old machine.new }
     ensures law { (P : Program) (Z : Sizes) (m₀ m : Cells) (f : Waits) (K : List Waits) (env : Environment) (a : Account) (t : Tree)
         → Hands P Z m₀ f K env a t (Frame.Test at) value machine.old m
@@ -35,7 +35,7 @@ pub fn hand_test(machine: &mut Machine<'_>, at: u16, value: Value) -> Result<(),
 }
 
 // The arm's value is the if's.
-pub fn hand_arm(machine: &mut Machine<'_>, at: u16, value: Value) -> Result<(), FaultKind>
+pub fn hand_arm(machine: &mut Machine<'_, '_>, at: u16, value: Value) -> Result<(), FaultKind>
     ensures steady { Steady machine.old machine.new }
     ensures law { (P : Program) (Z : Sizes) (m₀ m : Cells) (f : Waits) (K : List Waits) (env : Environment) (a : Account) (t : Tree)
         → Hands P Z m₀ f K env a t (Frame.Arm at) value machine.old m
@@ -47,7 +47,7 @@ pub fn hand_arm(machine: &mut Machine<'_>, at: u16, value: Value) -> Result<(), 
 
 // A part of a begin: it is dropped, and the next part comes; the last one's value is the begin's.
 pub fn hand_part<S: CellStore>(
-    machine: &mut Machine<'_>,
+    machine: &mut Machine<'_, '_>,
     store: &mut S,
     at: u16,
     next: u16,
@@ -72,7 +72,7 @@ pub fn hand_part<S: CellStore>(
 
 // The value of a name in a let: it is bound, and the next binding comes, or the body.
 pub fn hand_binding(
-    machine: &mut Machine<'_>,
+    machine: &mut Machine<'_, '_>,
     at: u16,
     next: u16,
     count: u16,

@@ -16,7 +16,7 @@ use super::{Control, Frame, Halt, Machine};
 use cells::values::Value;
 use rules::FaultKind;
 
-impl<'a> Machine<'a> {
+impl<'a, 'v> Machine<'a, 'v> {
     // The expression at this node is next.
     pub fn go(&mut self, node: u16) -> Result<(), FaultKind>
         ensures taken { result ≡ Ok tt }

@@ -14,7 +14,7 @@ use machine::Machine;
 use rules::{Fault, FaultKind, Named};
 
 // The fault of the next step. Arithmetic names the function of the basis, any other fault the define or val around the place.
-pub fn fault_at(machine: &Machine<'_>, kind: FaultKind, function: Option<Basis>) -> Fault
+pub fn fault_at(machine: &Machine<'_, '_>, kind: FaultKind, function: Option<Basis>) -> Fault
     ensures { (P : Program) (Z : Sizes) (m₀ m : Cells) (s : State) → Mirrors P Z m₀ s machine.now m → result ≡ fault_there P (step_place (main_of P) s) kind function }
 {
     let place = next_place(machine);

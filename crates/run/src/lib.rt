@@ -1,9 +1,17 @@
-// What a run says of its next step: its place in the text, and the fault that it names there. The calls that open, advance and close a run
-// are still to come.
+// A run over any store: opening, advancing and closing it.
 #![tactic(auto)]
 
+mod advances;
+mod closing;
 mod faults;
+mod opening;
 mod owners;
 mod places;
+mod runs;
+mod turns;
 
+pub use advances::advance;
+pub use closing::close;
+pub use opening::open;
 pub use owners::owner_at;
+pub use runs::{OpenRun, Run};

@@ -55,7 +55,7 @@ fn frame_place(script: &Compiled, frame: Frame) -> u16
 }
 
 // By what comes next.
-pub fn next_place(machine: &Machine<'_>) -> u16
+pub fn next_place(machine: &Machine<'_, '_>) -> u16
     ensures { (P : Program) (Z : Sizes) (m₀ m : Cells) (s : State) → Mirrors P Z m₀ s machine.now m → result ≡ step_place (main_of P) s }
 {
     match machine.control {

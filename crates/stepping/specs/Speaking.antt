@@ -1,7 +1,7 @@
--- The symbols that a state holds are those of the text.
+-- The symbols that a state holds are those of the script.
 use Rattle.std.specs.Prelude.{ℕ, List, [], ◌∷◌}
 use Rattle.data.specs.Trees.{Tree, int, bool, symbol, unit, function, built, Trees, none, more}
-use Rattle.machine.specs.Ready.{Quoted}
+use Rattle.machine.specs.Ready.{IsSymbol}
 use Rattle.program.specs.Programs.{Program}
 use Rattle.rules.specs.States.{Entry, full, empty, argument, Environment, Frame, saved, Control, opened, enter, finished, over, State, st}
 
@@ -43,6 +43,6 @@ module _ (Q : ℕ → Type 0) where
   abbrev pub SymbolsHeld : State → Type 0
   SymbolsHeld (st K env c a) = SymbolsInFrames K × SymbolsInEntries env × SymbolsNext c
 
--- each symbol held is the number of a literal, which the text quotes
-abbrev pub Spoken : Program → List ℕ → State → Type 0
-Spoken P text s = SymbolsHeld (Quoted text P) s
+-- each symbol held is the place of a literal of the script
+abbrev pub Spoken : Program → State → Type 0
+Spoken P s = SymbolsHeld (IsSymbol P) s

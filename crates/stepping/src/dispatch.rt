@@ -21,7 +21,7 @@ use machine::{Frame, Halt, Machine, unprinted};
 // By what waits. These are all frames there are, and a run keeps them as values on a stack: so a match, and no closures.
 // `Leaving` and `Body` stand apart: each rests on a clause of its own of `hand_leaving`, and one proof for both would ask which again.
 pub fn hand<S: CellStore>(
-    machine: &mut Machine<'_>,
+    machine: &mut Machine<'_, '_>,
     store: &mut S,
     out: &mut [u8],
     frame: Frame,

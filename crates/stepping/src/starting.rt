@@ -13,7 +13,7 @@ use machine::{Control, Frame, Machine, function_at};
 use rules::FaultKind;
 
 // Main waits for its body's value, and its body is next.
-pub fn call_main(machine: &mut Machine<'_>) -> Result<(), FaultKind>
+pub fn call_main(machine: &mut Machine<'_, '_>) -> Result<(), FaultKind>
     ensures steady { Steady machine.old machine.new }
     ensures law { (P : Program) (Z : Sizes) (m₀ m : Cells) (K : List Waits) (env : Environment) (a : Account)
         → Mirrors P Z m₀ (st K env opened a) machine.old m

@@ -20,14 +20,14 @@ use rules::FaultKind;
 // Whatever the machine mirrors, it does what the rules say, and then mirrors what they lead to. What is printed goes to the front of
 // the slice. A run that has ended, or a value for which nothing waits, is stuck.
 pub fn step<S: CellStore>(
-    machine: &mut Machine<'_>,
+    machine: &mut Machine<'_, '_>,
     store: &mut S,
     out: &mut [u8],
 ) -> Result<usize, Halt>
     ensures steady { Steady machine.old machine.new }
     ensures spares { Spares result out.old out.new }
     ensures law { (P : Program) (Z : Sizes) (m₀ : Cells) (s : State)
-        → Mirrors P Z m₀ s machine.old (S.CellStore.cells store.old) → Spoken P machine.old.text.now s
+        → Mirrors P Z m₀ s machine.old (S.CellStore.cells store.old) → Spoken P s
         → Printed P Z m₀ s out.old (steps P Z (main_of P) s) result machine.new (S.CellStore.cells store.new) out.new }
 {
     match machine.control {

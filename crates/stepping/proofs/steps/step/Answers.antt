@@ -1,4 +1,5 @@
 use Rattle.std.proofs.Common.{Err, refl, sym, ◌∙◌}
+use Rattle.handing.proofs.Views.{in_hand}
 use Rattle.machine.proofs.Resting.{silent}
 use Rattle.machine.specs.Mirrors.{Printed, printed_any}
 use Rattle.rules.specs.Runs.{main_of}
@@ -12,7 +13,7 @@ use Rattle.stepping.proofs.steps.step.Goals as goal
 pub returns-in_err-frame-in-Finished-clause-law : goal.returns-in_err-frame-in-Finished-clause-law
 unfolding step
 returns-in_err-frame-in-Finished-clause-law g c = λ P Z m₀ s M S.
-    on_finished (λ s. Spoken P c.args.machine.now.text.now s → Printed P Z m₀ s c.args.out.now (step P Z (main_of P) s) c.from_residual.result c.args.machine.now (g.S.CellStore.cells c.args.store.now) c.args.out.now) s M c.in-Finished.is
+    on_finished (λ s. Spoken P s → Printed P Z m₀ s c.args.out.now (step P Z (main_of P) s) c.from_residual.result c.args.machine.now (g.S.CellStore.cells c.args.store.now) c.args.out.now) s M c.in-Finished.is
     (λ K env a t M S. on_none K (λ K. Printed P Z m₀ (st K env (finished t) a) c.args.out.now (step P Z (main_of P) (st K env (finished t) a)) c.from_residual.result c.args.machine.now (g.S.CellStore.cells c.args.store.now) c.args.out.now) M (sym c.top.ensures ∙ c.in_err-frame-in-Finished.ensures.ok_part)
     printed_any) S
 
@@ -31,10 +32,10 @@ returns-in-Enter-clause-law g c = λ P Z m₀ s M S.
 pub returns-in_ok-frame-in-Finished-clause-law : goal.returns-in_ok-frame-in-Finished-clause-law
 unfolding step
 returns-in_ok-frame-in-Finished-clause-law g c = λ P Z m₀ s M S.
-    on_finished (λ s. Spoken P c.args.machine.now.text.now s
+    on_finished (λ s. Spoken P s
     → Printed P Z m₀ s c.args.out.now (step P Z (main_of P) s) c.hand.result c.hand.new.machine (g.S.CellStore.cells c.hand.new.store) c.hand.new.out) s M c.in-Finished.is
     (λ K env a t M S. on_waiting K (λ K. Printed P Z m₀ (st K env (finished t) a) c.args.out.now (step P Z (main_of P) (st K env (finished t) a)) c.hand.result c.hand.new.machine (g.S.CellStore.cells c.hand.new.store) c.hand.new.out) M c.in-Finished.is (sym c.top.ensures ∙ c.in_ok-frame-in-Finished.ensures.ok_part)
-    (λ f K H. c.hand.ensures.law P Z m₀ f K env a t H (speaks P c.args.machine.now.text.now t S.2))) S
+    (λ f K H. c.hand.ensures.law P Z m₀ f K env a t H (speaks P c.args.machine.now.text.now t (in_hand H.value H.mirrored).ready.quoted S.2))) S
 
 pub returns-in-Over-clause-law : goal.returns-in-Over-clause-law
 unfolding step

@@ -1,0 +1,125 @@
+-- An advance by its turns.
+use Rattle.std.proofs.Common.{◌≡◌, ℕ, ◌+◌, ◌-◌, ◌<◌, ◌≤◌, List, [], ◌++◌, length, take, drop, sym, refl, ap, ◌∙◌, arith, append_assoc, append-nil, length-append, length-drop}
+use Rattle.std.proofs.Math.Seq.{take-append-add, take-append_seam, drop-append-add}
+use Rattle.std.proofs.lemmas.List.{take-append-le, drop-append-le, drop-drop, drop_all, length-take-le}
+use Rattle.std.proofs.lemmas.List.{take_all}
+use Rattle.std.proofs.lemmas.Slice.{take-put_mid_below}
+use borrow.Rule.Slice.PartMut.{put_mid, same_len_mid}
+use Rattle.cells.specs.Meaning.{Cells}
+use Rattle.program.specs.Programs.{program}
+use Rattle.rules.specs.declared.answers.End.{End}
+use Rattle.rules.specs.Runs as rules
+use Rattle.rules.specs.Runs.{Answer, allowed, stopped, after, ends, moves}
+use Rattle.rules.proofs.Cuts.{advance_ends, advance_moves}
+use Rattle.run.specs.Insides.{Inside, Turned, turned_ends, turned_moves, Underway, before, Spares, Steady}
+use Rattle.run.specs.Openings.{Opening, sizes_of, turn_of, answer_of}
+use Rattle.run.specs.declared.runs.Run.{Run}
+use Rattle.run.specs.declared.turns.Turn.TheVariants.{Ends, Moves}
+
+-- what a part of a slice was written from place i on, up to the end
+module _ (i : ℕ) (xs ys : List ℕ) (n : ℕ) (within : i ≤ length xs) (fits : n ≤ length ys) where
+  rest : List ℕ
+  rest = ys ++ drop (length xs - i) (drop i xs)
+
+  pub front_then : take (i + n) (put_mid i (length xs - i) xs ys) ≡ take i xs ++ take n ys
+  front_then =
+      let long : length (take i xs) ≡ i = length-take-le i xs within in
+      ap (λ (m : ℕ). take (m + n) (put_mid i (length xs - i) xs ys)) (sym long) ∙ (take-append-add (take i xs) (ys ++ drop (length xs - i) (drop i xs)) n ∙ ap (λ l. take i xs ++ l) (take-append-le n ys (drop (length xs - i) (drop i xs)) fits))
+
+  pub back_then : drop n ys ≡ drop n (drop i xs) → drop (i + n) (put_mid i (length xs - i) xs ys) ≡ drop (i + n) xs
+  back_then e =
+      let long : length (take i xs) ≡ i = length-take-le i xs within in
+      let none : drop (length xs - i) (drop i xs) ≡ [] = drop-drop (length xs - i) i xs ∙ drop_all (i + (length xs - i)) xs (omega arith) in
+      ap (λ (m : ℕ). drop (m + n) (put_mid i (length xs - i) xs ys)) (sym long) ∙ (drop-append-add (take i xs) (ys ++ drop (length xs - i) (drop i xs)) n
+      ∙ (drop-append-le n ys (drop (length xs - i) (drop i xs)) fits ∙ (ap (λ l. drop n ys ++ l) none ∙ (append-nil (drop n ys) ∙ (e ∙ drop-drop n i xs)))))
+
+-- a part up to the end
+pub up_to_end : (i : ℕ) (xs : List ℕ) → take (length xs - i) (drop i xs) ≡ drop i xs
+up_to_end i xs = take_all (length xs - i) (drop i xs) (omega (arith, length-drop i xs))
+
+-- a slice whose part was written stays as it was behind that
+pub spares_more : (i n : ℕ) (old xs ys : List ℕ) → Spares i old xs → Spares n (drop i xs) ys → Spares (i + n) old (put_mid i (length xs - i) xs ys)
+spares_more i n old xs ys a b =
+    let within : i ≤ length xs = omega (arith, a.within, a.long) in
+    let part : length (drop i xs) ≡ length xs - i = length-drop i xs in
+    let fits : n ≤ length ys = omega (arith, b.within, b.long) in
+    record {
+      within = omega (arith, a.within, a.long, b.within, part);
+      past = back_then i xs ys n within fits b.past ∙ (sym (drop-drop n i xs) ∙ (ap (drop n) a.past ∙ drop-drop n i old));
+      long = same_len_mid i (length xs - i) xs ys (b.long ∙ ap length (sym (up_to_end i xs))) ∙ a.long;
+    }
+
+pub steady_then : {a b c : Run} → Steady a b → Steady b c → Steady a c
+steady_then x y = record { steps = omega (arith, x.steps, y.steps); taken = omega (arith, x.taken, y.taken); given = omega (arith, x.given, y.given) }
+
+before_none : (o : Answer) → before 0 [] o ≡ o
+before_none o = let z : 0 + o.steps ≡ o.steps = omega arith in ap (λ (n : ℕ). record o { steps = n }) z
+
+before_after : (steps : ℕ) (said bytes : List ℕ) (o : Answer) → before steps said (after bytes o) ≡ before (steps + 1) (said ++ bytes) o
+before_after steps said bytes o =
+    let z : steps + (1 + o.steps) ≡ (steps + 1) + o.steps = omega arith in
+    rw (z, sym (append_assoc said bytes o.bytes)) refl
+
+before_stopped : (steps : ℕ) (said : List ℕ) (e : End) (r : rules.Run) → before steps said (stopped e r) ≡ record { end = e; steps = steps; bytes = said; run = r }
+before_stopped steps said e r = let z : steps + 0 ≡ steps = omega arith in rw (z, append-nil said) refl
+
+module _ (o : Opening) (r : rules.Run) (count room : ℕ) where
+  pub underway_none : {out : List ℕ} {run : Run} {m : Cells} → Inside o r run m → Underway o r count room 0 0 out run m
+  underway_none I =
+      let a : count - 0 ≡ count = omega arith in
+      let b : room - 0 ≡ room = omega arith in
+      record {
+        here = r;
+        said = [];
+        same = sym (ap (λ (n : ℕ). before 0 [] (answer_of o r n (room - 0))) a ∙ (ap (λ (n : ℕ). before 0 [] (answer_of o r count n)) b ∙ before_none (answer_of o r count room)));
+        long = refl;
+        wrote = refl;
+        inside = I;
+      }
+
+  left_room : (bytes : ℕ) (out : List ℕ) → length out ≡ room → length (drop bytes out) ≡ room - bytes
+  left_room bytes out long = omega (arith, length-drop bytes out)
+
+  module _ (steps bytes : ℕ) (out : List ℕ) (long : length out ≡ room) (within : bytes ≤ length out) {run : Run} {m : Cells} (U : Underway o r count room steps bytes out run m) (run' : Run) (m' : Cells) where
+    -- a step more
+    pub underway_more : {n : ℕ} {new : List ℕ} → steps < count → length new ≡ length (drop bytes out) → n ≤ length new → Turned o (drop bytes out) (turn_of o (count - steps) (length (drop bytes out)) U.here) (Moves n) new run' m'
+        → Underway o r count room (steps + 1) (bytes + n) (put_mid bytes (length out - bytes) out new) run' m'
+    underway_more {n} {new} some same_long fits T = by (turn_of o (count - steps) (length (drop bytes out)) U.here) refl T
+      where
+        by : (t : rules.Turn) → turn_of o (count - steps) (length (drop bytes out)) U.here ≡ t → Turned o (drop bytes out) t (Moves n) new run' m' → Underway o r count room (steps + 1) (bytes + n) (put_mid bytes (length out - bytes) out new) run' m'
+        by _ e (turned_moves {bytes = bs} {r = next} k f w I) =
+            let one = advance_moves (program o.script) (sizes_of o) (allowed o.allowance) (count - steps) (count - (steps + 1)) (length (drop bytes out)) U.here (omega arith) e in
+            let left : length (drop bytes out) - length bs ≡ room - (bytes + n) = omega (arith, (left_room bytes out long)) in
+            let printed : take n new ≡ bs = ap (take n) w ∙ (ap (λ (k : ℕ). take k (bs ++ drop (length bs) (drop bytes out))) k ∙ take-append_seam bs _) in
+            record {
+              here = next;
+              said = U.said ++ bs;
+              same =
+                  U.same ∙ (ap (λ (n : ℕ). before steps U.said (answer_of o U.here (count - steps) n)) (sym (left_room bytes out long)) ∙ (ap (before steps U.said) one
+                  ∙ (before_after steps U.said bs (answer_of o next (count - (steps + 1)) (length (drop bytes out) - length bs))
+                  ∙ ap (λ (n : ℕ). before (steps + 1) (U.said ++ bs) (answer_of o next (count - (steps + 1)) n)) left)));
+              long = omega (arith, length-append U.said bs, U.long);
+              wrote = front_then bytes out new n within fits ∙ (ap (λ l. l ++ take n new) U.wrote ∙ ap (λ l. U.said ++ l) printed);
+              inside = I;
+            }
+
+    -- the end
+    pub record EndedSo (e : End) (out' : List ℕ) : Type 0 where
+      pub next : rules.Run
+      pub answer : answer_of o r count room ≡ record { end = e; steps = steps; bytes = U.said; run = next }
+      pub wrote : take bytes out' ≡ U.said
+      pub inside : Inside o next run' m'
+
+    pub underway_ends : {e : End} {new : List ℕ} → Turned o (drop bytes out) (turn_of o (count - steps) (length (drop bytes out)) U.here) (Ends e) new run' m'
+        → EndedSo e (put_mid bytes (length out - bytes) out new)
+    underway_ends {e} {new} T = by (turn_of o (count - steps) (length (drop bytes out)) U.here) refl T
+      where
+        by : (t : rules.Turn) → turn_of o (count - steps) (length (drop bytes out)) U.here ≡ t → Turned o (drop bytes out) t (Ends e) new run' m' → EndedSo e (put_mid bytes (length out - bytes) out new)
+        by _ q (turned_ends {r = next} w I) =
+            let one = advance_ends (program o.script) (sizes_of o) (allowed o.allowance) (count - steps) (length (drop bytes out)) U.here q in
+            record {
+              next = next;
+              answer = U.same ∙ (ap (λ (n : ℕ). before steps U.said (answer_of o U.here (count - steps) n)) (sym (left_room bytes out long)) ∙ (ap (before steps U.said) one ∙ before_stopped steps U.said e next));
+              wrote = take-put_mid_below bytes (length out - bytes) out new bytes (omega arith) within ∙ U.wrote;
+              inside = I;
+            }
