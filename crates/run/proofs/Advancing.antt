@@ -1,7 +1,7 @@
 -- An advance by its turns.
 use Rattle.std.proofs.Common.{◌≡◌, ℕ, ◌+◌, ◌-◌, ◌<◌, ◌≤◌, List, [], ◌++◌, length, take, drop, sym, refl, ap, ◌∙◌, arith, append_assoc, append-nil, length-append, length-drop}
 use Rattle.std.proofs.Math.Seq.{take-append-add, take-append_seam, drop-append-add}
-use Rattle.std.proofs.lemmas.List.{take-append-le, drop-append-le, drop-drop, drop_all, length-take-le}
+use Rattle.std.proofs.lemmas.List.{take-append-le, drop-append-le, take-append-drop, drop-drop, length-take-le}
 use Rattle.std.proofs.lemmas.List.{take_all}
 use Rattle.std.proofs.lemmas.Slice.{take-put_mid_below}
 use borrow.Rule.Slice.PartMut.{put_mid, same_len_mid}
@@ -16,37 +16,35 @@ use Rattle.run.specs.Openings.{Opening, sizes_of, turn_of, answer_of}
 use Rattle.run.specs.declared.runs.Run.{Run}
 use Rattle.run.specs.declared.turns.Turn.TheVariants.{Ends, Moves}
 
--- what a part of a slice was written from place i on, up to the end
-module _ (i : ℕ) (xs ys : List ℕ) (n : ℕ) (within : i ≤ length xs) (fits : n ≤ length ys) where
-  rest : List ℕ
-  rest = ys ++ drop (length xs - i) (drop i xs)
+-- A part of a slice, k elements from place i on, was written.
+module _ (i k : ℕ) (xs ys : List ℕ) (n : ℕ) (within : i + k ≤ length xs) (full : length ys ≡ k) (fits : n ≤ k) where
+  here : length (take i xs) ≡ i
+  here = length-take-le i xs (omega arith)
 
-  pub front_then : take (i + n) (put_mid i (length xs - i) xs ys) ≡ take i xs ++ take n ys
+  pub front_then : take (i + n) (put_mid i k xs ys) ≡ take i xs ++ take n ys
   front_then =
-      let long : length (take i xs) ≡ i = length-take-le i xs within in
-      ap (λ (m : ℕ). take (m + n) (put_mid i (length xs - i) xs ys)) (sym long) ∙ (take-append-add (take i xs) (ys ++ drop (length xs - i) (drop i xs)) n ∙ ap (λ l. take i xs ++ l) (take-append-le n ys (drop (length xs - i) (drop i xs)) fits))
+      ap (λ (m : ℕ). take (m + n) (put_mid i k xs ys)) (sym here) ∙ (take-append-add (take i xs) (ys ++ drop k (drop i xs)) n ∙ ap (λ l. take i xs ++ l) (take-append-le n ys (drop k (drop i xs)) (omega arith)))
 
-  pub back_then : drop n ys ≡ drop n (drop i xs) → drop (i + n) (put_mid i (length xs - i) xs ys) ≡ drop (i + n) xs
+  pub back_then : drop n ys ≡ drop n (take k (drop i xs)) → drop (i + n) (put_mid i k xs ys) ≡ drop (i + n) xs
   back_then e =
-      let long : length (take i xs) ≡ i = length-take-le i xs within in
-      let none : drop (length xs - i) (drop i xs) ≡ [] = drop-drop (length xs - i) i xs ∙ drop_all (i + (length xs - i)) xs (omega arith) in
-      ap (λ (m : ℕ). drop (m + n) (put_mid i (length xs - i) xs ys)) (sym long) ∙ (drop-append-add (take i xs) (ys ++ drop (length xs - i) (drop i xs)) n
-      ∙ (drop-append-le n ys (drop (length xs - i) (drop i xs)) fits ∙ (ap (λ l. drop n ys ++ l) none ∙ (append-nil (drop n ys) ∙ (e ∙ drop-drop n i xs)))))
+      let part : length (take k (drop i xs)) ≡ k = length-take-le k (drop i xs) (omega (arith, length-drop i xs)) in
+      ap (λ (m : ℕ). drop (m + n) (put_mid i k xs ys)) (sym here) ∙ (drop-append-add (take i xs) (ys ++ drop k (drop i xs)) n
+      ∙ (drop-append-le n ys (drop k (drop i xs)) (omega arith) ∙ (ap (λ l. l ++ drop k (drop i xs)) e ∙ (sym (drop-append-le n (take k (drop i xs)) (drop k (drop i xs)) (omega (arith, part)))
+      ∙ (ap (drop n) (take-append-drop k (drop i xs)) ∙ drop-drop n i xs)))))
 
 -- a part up to the end
 pub up_to_end : (i : ℕ) (xs : List ℕ) → take (length xs - i) (drop i xs) ≡ drop i xs
 up_to_end i xs = take_all (length xs - i) (drop i xs) (omega (arith, length-drop i xs))
 
--- a slice whose part was written stays as it was behind that
-pub spares_more : (i n : ℕ) (old xs ys : List ℕ) → Spares i old xs → Spares n (drop i xs) ys → Spares (i + n) old (put_mid i (length xs - i) xs ys)
-spares_more i n old xs ys a b =
-    let within : i ≤ length xs = omega (arith, a.within, a.long) in
-    let part : length (drop i xs) ≡ length xs - i = length-drop i xs in
-    let fits : n ≤ length ys = omega (arith, b.within, b.long) in
+-- behind what was written to it and to the front of its part a slice is as it was
+pub spares_more : (i k n : ℕ) (old xs ys : List ℕ) → i + k ≤ length xs → Spares i old xs → Spares n (take k (drop i xs)) ys → Spares (i + n) old (put_mid i k xs ys)
+spares_more i k n old xs ys within a b =
+    let part : length (take k (drop i xs)) ≡ k = length-take-le k (drop i xs) (omega (arith, length-drop i xs)) in
+    let full : length ys ≡ k = omega (arith, b.long, part) in
     record {
-      within = omega (arith, a.within, a.long, b.within, part);
-      past = back_then i xs ys n within fits b.past ∙ (sym (drop-drop n i xs) ∙ (ap (drop n) a.past ∙ drop-drop n i old));
-      long = same_len_mid i (length xs - i) xs ys (b.long ∙ ap length (sym (up_to_end i xs))) ∙ a.long;
+      within = omega (arith, a.long, b.within, part);
+      past = back_then i k xs ys n within full (omega (arith, b.within, part)) b.past ∙ (sym (drop-drop n i xs) ∙ (ap (drop n) a.past ∙ drop-drop n i old));
+      long = same_len_mid i k xs ys b.long ∙ a.long;
     }
 
 pub steady_then : {a b c : Run} → Steady a b → Steady b c → Steady a c
@@ -99,7 +97,7 @@ module _ (o : Opening) (r : rules.Run) (count room : ℕ) where
                   ∙ (before_after steps U.said bs (answer_of o next (count - (steps + 1)) (length (drop bytes out) - length bs))
                   ∙ ap (λ (n : ℕ). before (steps + 1) (U.said ++ bs) (answer_of o next (count - (steps + 1)) n)) left)));
               long = omega (arith, length-append U.said bs, U.long);
-              wrote = front_then bytes out new n within fits ∙ (ap (λ l. l ++ take n new) U.wrote ∙ ap (λ l. U.said ++ l) printed);
+              wrote = front_then bytes (length out - bytes) out new n (omega arith) (omega (arith, same_long, length-drop bytes out)) (omega (arith, same_long, fits, length-drop bytes out)) ∙ (ap (λ l. l ++ take n new) U.wrote ∙ ap (λ l. U.said ++ l) printed);
               inside = I;
             }
 

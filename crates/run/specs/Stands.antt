@@ -52,29 +52,42 @@ told c = record { end = c.answer.end; steps = c.answer.steps; written = c.answer
 abbrev pub as_answer : Made → rules.Run → Answer
 as_answer c r = record { end = c.answer.end; steps = c.answer.steps; bytes = c.bytes; run = r }
 
--- After these advances of a run that was opened so:
-pub record Stands (o : Opening) (h : List Made) (run : Run) (m : Cells) : Type 0 where
+module _ (o : Opening) (h : List Made) where
   -- The store holds what it held at opening, unchanged, and one cell for each constructor in the data that the rules' run holds, filled with
   -- it and its fields; every other cell is free.
-  pub cells : Keeps o.cells m (values_held run) (data_held (run_after o h).state)
-  -- so many cells are free as the rules say
-  pub free_is : free m ≡ free_cells (sizes_of o) (run_after o h).state
-  -- The answers are the rules' answers to the same advances.
-  pub answers : map told h ≡ map said (answers_of o h)
-  -- None of them was stuck.
-  pub sound : (before after : List Made) (c : Made) (f : Fault) → h ≡ before ++ c ∷ after → c.answer.end ≡ Faulted f → f.kind ≢ Stuck
-  -- Too few cells was answered exactly where the next step, stopped by nothing that is tested before, needed more cells than were free.
-  pub short : (before after : List Made) (c : Made) → h ≡ before ++ c ∷ after
-      → ExactlyShort (program o.script) (sizes_of o) (allowed o.allowance) (run_after o before) (asked c) (as_answer c (run_after o (before ++ c ∷ [])))
-  -- what ties the run's own fields to the rules' run
-  pub inside : Inside o (run_after o h) run m
+  abbrev pub CellsHeld : List Value → Cells → Type 0
+  CellsHeld values m = Keeps o.cells m values (data_held (run_after o h).state)
 
--- After the close of such a run: the store means what it meant at opening, the counts are the rules', all cells taken were given back, and
--- nothing was stuck.
-pub record Finished (o : Opening) (h : List Made) (closed : Closed) (m : Cells) : Type 0 where
-  pub cells : m ≡ o.cells
-  pub steps : closed.steps ≡ (close (run_after o h)).steps
-  pub taken : closed.taken ≡ (close (run_after o h)).taken
-  pub given : closed.given_back ≡ (close (run_after o h)).given
-  pub equal : closed.taken ≡ closed.given_back
-  pub sound : closed.stuck ≡ false
+  -- The answers are the rules' answers to the same advances.
+  abbrev pub AnswersAgree : Type 0
+  AnswersAgree = map told h ≡ map said (answers_of o h)
+
+  -- None of them was stuck.
+  abbrev pub NoneStuck : Type 0
+  NoneStuck = (before after : List Made) (c : Made) (f : Fault) → h ≡ before ++ c ∷ after → c.answer.end ≡ Faulted f → f.kind ≢ Stuck
+
+  -- Too few cells was answered exactly where the next step, stopped by nothing that is tested before, needed more cells than were free.
+  abbrev pub ShortExactly : Type 0
+  ShortExactly = (before after : List Made) (c : Made) → h ≡ before ++ c ∷ after
+      → ExactlyShort (program o.script) (sizes_of o) (allowed o.allowance) (run_after o before) (asked c) (as_answer c (run_after o (before ++ c ∷ [])))
+
+  -- How a run that was opened so and its store stand after these advances.
+  pub record Stands (run : Run) (m : Cells) : Type 0 where
+    pub cells : CellsHeld (values_held run) m
+    -- so many cells are free as the rules say
+    pub free_is : free m ≡ free_cells (sizes_of o) (run_after o h).state
+    pub answers : AnswersAgree
+    pub sound : NoneStuck
+    pub short : ShortExactly
+    -- what ties the run's own fields to the rules' run
+    pub inside : Inside o (run_after o h) run m
+
+  -- After its close: the store means what it meant at opening, the counts are the rules', all cells taken were given back, and nothing was
+  -- stuck.
+  pub record Finished (closed : Closed) (m : Cells) : Type 0 where
+    pub cells : m ≡ o.cells
+    pub steps : closed.steps ≡ (close (run_after o h)).steps
+    pub taken : closed.taken ≡ (close (run_after o h)).taken
+    pub given : closed.given_back ≡ (close (run_after o h)).given
+    pub equal : closed.taken ≡ closed.given_back
+    pub sound : closed.stuck ≡ false

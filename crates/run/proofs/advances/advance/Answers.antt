@@ -33,7 +33,7 @@ loop-end-preserved g c =
     let part = subst (λ p. Spares c.in-Moves.printed p c.take_turn.new.out) (up_to_end bytes out) c.in-Moves.ensures.spares in
     let fits : c.in-Moves.printed ≤ length c.take_turn.new.out = omega (arith, part.within, part.long) in (
       omega (arith, some),
-      spares_more bytes c.in-Moves.printed c.args.out.now out c.take_turn.new.out I.1 part,
+      spares_more bytes (length out - bytes) c.in-Moves.printed c.args.out.now out c.take_turn.new.out (omega arith) I.1 c.in-Moves.ensures.spares,
       steady_then I.2 c.in-Moves.ensures.steady,
       λ o r J.
           let U = I.3 o r J in

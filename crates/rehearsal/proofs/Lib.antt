@@ -1,0 +1,4 @@
+pub mod Growing
+pub mod Judgements
+pub mod Histories
+pub mod Rehearsed
