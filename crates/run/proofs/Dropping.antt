@@ -125,10 +125,10 @@ holds (mirrors {K = K} {env = env} {c = c} {a = a} R N) = record {
 }
 
 -- once all that a run holds is dropped
-pub finished_by : (o : Opening) (h : List Made) {run : Run} {m m' : Cells} (dropped : Dropped) → Stands o h run m
-    → ((m₀ : Cells) (ts : Trees) → Out m (value_in_hand run.machine.control ++ values_in (tops run.machine.slots)) ts m₀ → Frees (record { given = run.machine.given; stuck = false }) ts m₀ dropped m')
+pub finished_by : (o : Opening) (h : List Made) {run : Run} {m m' : Cells} (before : ℕ) (dropped : Dropped) → Stands o h run m → before ≡ run.machine.given
+    → ((m₀ : Cells) (ts : Trees) → Out m (value_in_hand run.machine.control ++ values_in (tops run.machine.slots)) ts m₀ → Frees (record { given = before; stuck = false }) ts m₀ dropped m')
     → Finished o h (record { steps = run.steps; taken = run.machine.taken; given_back = dropped.given; stuck = dropped.stuck }) m'
-finished_by o h {run} dropped S frees =
+finished_by o h {run} before dropped S same frees =
     let r = run_after o h in
     let H = holds S.inside.mirrored in
     let F = frees o.cells H.row H.out in
@@ -137,7 +137,7 @@ finished_by o h {run} dropped S frees =
     let within = S.inside.within in
     let small : (account_of r.state).taken ≤ 65535000000000 = omega (arith, few, within) in
     let taken : run.machine.taken ≡ (account_of r.state).taken = omega (arith, H.taken, small) in
-    let given : dropped.given ≡ (account_of r.state).given + held r.state = omega (arith, F.gives.given, H.given, H.size_is, balanced.account, small) in
+    let given : dropped.given ≡ (account_of r.state).given + held r.state = omega (arith, F.gives.given, same, H.given, H.size_is, balanced.account, small) in
     record {
       cells = F.cells;
       steps = S.inside.steps;

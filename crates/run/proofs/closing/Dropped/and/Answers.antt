@@ -1,4 +1,4 @@
-use Rattle.std.proofs.Common.{◌≡◌, ◌+◌, min, refl, ap, ◌∙◌}
+use Rattle.std.proofs.Common.{◌≡◌, refl, arith}
 use Rattle.data.proofs.Moves.{drop_held}
 use Rattle.data.specs.Trees.{size}
 use Rattle.run.proofs.closing.Dropped.and.Goals as goal
@@ -8,7 +8,7 @@ returns-in-Ok-clause-law g c = λ m₀ vs t ts O.
     let h = drop_held c.in-Ok.ensures O in
     let is = h.0 in
     let number : c.in-Ok.count ≡ size t = cc in
-    (record { given = c.saturating_add.ensures ∙ ap (λ n. min (c.args.self.given + n) 18446744073709551615) number; stuck = refl }, h.1)
+    (record { given = omega (arith, c.saturating_add.ensures, number); stuck = refl }, h.1)
 
 pub returns-in-Err-clause-law : goal.returns-in-Err-clause-law
 returns-in-Err-clause-law g c = λ m₀ vs t ts O. absurd (let h = (drop_held c.in-Err.ensures O).0 in cc)
