@@ -1,5 +1,5 @@
 -- A case, its branches, and one of them.
-use Rattle.std.proofs.Common.{◌≡◌, ℕ, ◌+◌, ◌-◌, ◌<◌, ◌≤◌, Bool, true, false, ◌||◌, List, ◌∷◌, ◌++◌, length, drop, max, Some, None, Ok, Err, Option, Result, slice_set, sym, refl, ap, ◌∙◌, subst, arith}
+use Rattle.std.proofs.Common.{◌≡◌, ℕ, ◌+◌, ◌-◌, ◌<◌, ◌≤◌, Bool, false, ◌||◌, List, ◌++◌, length, Some, None, Ok, Err, Option, Result, slice_set, sym, refl, ap, ◌∙◌, subst, arith}
 use Rattle.std.specs.Prelude.{slice_index_or}
 use Rattle.std.specs.Option.{ok_or}
 use Rattle.bodies.proofs.DeskLaws.{marked_as, kept_ready, kept_lying, kept_self, kept_marked, names_again, names_joined}
@@ -7,7 +7,7 @@ use Rattle.bodies.proofs.JudgeLaws.{case_refused, case_other, case_later, case_u
 use Rattle.bodies.proofs.NodeLaws.{Behind, coded_low, coded_after, branched_low}
 use Rattle.bodies.proofs.PutLaws.{puts_two}
 use Rattle.bodies.proofs.SizeLaws.{code_size}
-use Rattle.bodies.specs.Parts.{OnExpr, OnArm, OnArms, Branched, ArmStands, ArmsAnswers, Branching, OfOneType, Alike, compile_arm, judge_arm, number_of}
+use Rattle.bodies.specs.Parts.{OnExpr, OnArm, OnArms, Branched, ArmStands, ArmsAnswers, OfOneType, Alike, compile_arm, judge_arm, number_of}
 use Rattle.forms.specs.Progress.{puts}
 use Rattle.globals.specs.Known.{meaning_in}
 use Rattle.grammar.specs.Limits.{expr_nodes}
@@ -35,7 +35,7 @@ use Rattle.script_refusals.specs.declared.refusal.Refused.{Refused}
 use Rattle.type_rows.specs.Rows.{IsKind}
 use Rattle.type_rows.specs.declared.value_type.ValueType.{ValueType}
 use Rattle.type_rows.specs.declared.value_type.ValueType.TheVariants as value
-use Rattle.typing.specs.Judging.{Judged, refused, judged, judge, judge_pattern, judge_branches, all_alike}
+use Rattle.typing.specs.Judging.{refused, judged, judge, judge_branches}
 use Rattle.typing.specs.Types.{Ty, datum, function, Tys, no_types, and_type}
 
 function_no_datum : (ts : Tys) (t : Ty) (d : ℕ) → function ts t ≡ datum d → ⊥

@@ -1,5 +1,5 @@
 -- The names in scope, before and after a part was judged.
-use Rattle.std.proofs.Common.{Err, Result, ◌≡◌, ℕ, ◌+◌, ◌≤◌, Bool, false, ◌||◌, List, length, drop, sym, refl, ap, ◌∙◌, subst, arith}
+use Rattle.std.proofs.Common.{Err, Result, ◌≡◌, ℕ, ◌≤◌, Bool, false, ◌||◌, List, length, sym, refl, ap, ◌∙◌, subst, arith}
 use Rattle.std.specs.Prelude.{slice_index_or}
 use Rattle.std.proofs.Math.Bool.{or_comm}
 use Rattle.globals.specs.Known.{meaning_in}
@@ -8,12 +8,12 @@ use Rattle.naming.specs.Judges.{Answers, Desk, Kept, Grown, Ready, Lying, names,
 use Rattle.naming.specs.declared.world.World.{World}
 use Rattle.program.specs.Scopes as placed
 use Rattle.scopes.specs.Locals.{context, KindsBelow, Placed, SameBelow}
-use Rattle.scopes.proofs.ContextLaws.{context_cut, context_same, context_locals, context_join, kinds_same, same_self, same_then}
+use Rattle.scopes.proofs.ContextLaws.{context_locals, context_join, kinds_same, same_self, same_then}
 use Rattle.scopes.proofs.PlacedLaws.{placed_same}
 use Rattle.program.specs.declared.code.Code.{Code}
 use Rattle.script_refusals.specs.declared.refusal.Refused.{Refused}
 use Rattle.type_rows.specs.declared.value_type.ValueType.{ValueType}
-use Rattle.typing.specs.Contexts.{Context, join}
+use Rattle.typing.specs.Contexts.{join}
 use Rattle.typing.specs.Judging.{Judged, refused}
 use Rattle.typing.specs.Types.{Ty}
 

@@ -1,5 +1,5 @@
 -- An if.
-use Rattle.std.proofs.Common.{◌≡◌, ℕ, ◌+◌, ◌<◌, ◌≤◌, Bool, true, false, ◌||◌, List, ◌∷◌, ◌++◌, length, max, Ok, Err, Result, slice_set, sym, refl, ap, ◌∙◌, subst, arith}
+use Rattle.std.proofs.Common.{◌≡◌, ℕ, ◌+◌, ◌≤◌, Bool, true, false, ◌||◌, List, ◌++◌, Ok, Err, Result, slice_set, sym, refl, ap, ◌∙◌, subst, arith}
 use Rattle.std.specs.Prelude.{slice_index_or}
 use Rattle.bodies.proofs.DeskLaws.{marked_as, kept_ready, kept_lying, kept_self, kept_marked, names_again, names_joined}
 use Rattle.bodies.proofs.JudgeLaws.{if_test_refused, if_test_other, if_first_refused, if_second_refused, if_unlike, if_judged}

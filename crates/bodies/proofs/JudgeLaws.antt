@@ -1,8 +1,8 @@
 -- What the judgement of a form is, by what those of its parts are.
-use Rattle.std.proofs.Common.{◌≡◌, ℕ, ◌+◌, true, false, Bool, List, ◌∷◌, drop, Some, None, Option, refl, ap, sym, ◌∙◌}
+use Rattle.std.proofs.Common.{◌≡◌, ℕ, true, false, List, drop, Some, None, Option, refl, ap, ◌∙◌}
 use Rattle.std.specs.List.{slice_get}
 use Rattle.bodies.specs.Parts.{judge_arm}
-use Rattle.grammar.specs.Trees.{Ident, Pattern, Expr, if_expr, begin_expr, let_expr, case_expr, apply_expr, Exprs, no_exprs, and_expr, Bindings, no_bindings, and_binding, Branches, last_branch, and_branch}
+use Rattle.grammar.specs.Trees.{Ident, Pattern, Expr, if_expr, begin_expr, let_expr, case_expr, apply_expr, Exprs, and_expr, Bindings, and_binding, Branches, last_branch, and_branch}
 use Rattle.program.specs.Compiling.{binding_count}
 use Rattle.program.specs.Programs.{Program, Variant}
 use Rattle.program.specs.Scopes.{pattern_names}
@@ -10,7 +10,7 @@ use Rattle.script_refusals.specs.Refusals.{refused_at}
 use Rattle.script_refusals.specs.declared.refusal.Refusal.TheVariants.{Mismatch}
 use Rattle.script_refusals.specs.declared.refusal.Refused.{Refused}
 use Rattle.typing.specs.Contexts.{Context, join}
-use Rattle.typing.specs.Judging.{Judged, refused, judged, and_then, judge, judge_pattern, judge_row, judge_each, judge_bindings, judge_branches, bind_name, head_constructor, construct, call, all_alike, need, tested, agreed}
+use Rattle.typing.specs.Judging.{Judged, refused, judged, and_then, judge, judge_pattern, judge_row, judge_each, judge_bindings, judge_branches, bind_name, head_constructor, construct, call, all_alike, tested, agreed}
 use Rattle.typing.specs.Types as type
 use Rattle.typing.specs.Types.{Ty, int, bool, unit, datum, function, Tys, no_types, and_type, same_type, same_types, types_of}
 

@@ -1,15 +1,15 @@
 -- A let, and its bindings.
-use Rattle.std.proofs.Common.{◌≡◌, ℕ, ◌+◌, ◌-◌, ◌<◌, ◌≤◌, List, ◌∷◌, ◌++◌, length, drop, max, Some, Ok, Err, Result, slice_set, sym, refl, ap, ◌∙◌, subst, arith}
+use Rattle.std.proofs.Common.{◌≡◌, ℕ, ◌+◌, ◌-◌, ◌<◌, ◌≤◌, List, ◌∷◌, ◌++◌, length, Some, Ok, Err, Result, slice_set, sym, refl, ap, ◌∙◌, subst, arith}
 use Rattle.bodies.proofs.DeskLaws.{kept_ready, kept_lying, kept_self}
 use Rattle.bodies.proofs.JudgeLaws.{let_refused, let_body_refused, let_judged, binding_refused, binding_goes}
-use Rattle.bodies.proofs.NodeLaws.{Behind, coded_low, coded_after, bindable_low}
+use Rattle.bodies.proofs.NodeLaws.{Behind, coded_low, bindable_low}
 use Rattle.bodies.proofs.PutLaws.{puts_two, set_puts}
-use Rattle.bodies.proofs.SizeLaws.{code_size, binds_size}
+use Rattle.bodies.proofs.SizeLaws.{code_size}
 use Rattle.bodies.specs.Parts.{OnExpr, OnBindings, Bindable, BindingsAnswers, LetBound, number_of}
 use Rattle.forms.specs.Progress.{puts}
 use Rattle.globals.specs.Known.{meaning_in}
-use Rattle.grammar.specs.Limits.{expr_nodes, bindings_nodes}
-use Rattle.grammar.specs.Trees.{Ident, Expr, let_expr, Bindings, no_bindings, and_binding, Script}
+use Rattle.grammar.specs.Limits.{expr_nodes}
+use Rattle.grammar.specs.Trees.{Expr, let_expr, Bindings, and_binding, Script}
 use Rattle.layout.specs.Decoding as lies
 use Rattle.layout.specs.Decoding.{node_found, c_let, c_body, c_binding}
 use Rattle.layout.specs.declared.node.Node.{Node}
@@ -17,7 +17,7 @@ use Rattle.layout.specs.declared.node.NodeForm.{NodeForm}
 use Rattle.layout.specs.declared.node.NodeForm.TheVariants as form
 use Rattle.layout.specs.declared.word.Word.{Word}
 use Rattle.naming.specs.Binding.{OnName}
-use Rattle.naming.specs.Judges.{Desk, Kept, Grown, Setting, Ready, Lying, Coded, ExprAnswers, names, meant, vals_of, rows_of, text_of}
+use Rattle.naming.specs.Judges.{Desk, Kept, Setting, Ready, Lying, Coded, ExprAnswers, names, meant, vals_of, text_of}
 use Rattle.naming.specs.declared.world.World.{World}
 use Rattle.program.proofs.CodeLaws.{code_length, bindings_length}
 use Rattle.program.specs.Compiling.{code, compile, compile_bindings, binding_count, let_scope}
@@ -26,7 +26,6 @@ use Rattle.program.specs.Scopes as placed
 use Rattle.program.specs.declared.code.Code.{Code}
 use Rattle.program.specs.declared.code.Op.TheVariants as op
 use Rattle.scopes.proofs.ContextLaws.{context_cut}
-use Rattle.scopes.specs.Locals.{context}
 use Rattle.script_refusals.specs.declared.refusal.Refused.{Refused}
 use Rattle.type_rows.specs.declared.value_type.ValueType.{ValueType}
 use Rattle.typing.specs.Judging.{refused, judged, judge, judge_bindings}

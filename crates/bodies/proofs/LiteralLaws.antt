@@ -1,5 +1,5 @@
 -- Literals.
-use Rattle.std.proofs.Common.{◌⊎◌, inl, inr, ◌≡◌, ℕ, ◌+◌, Bool, List, ◌∷◌, ℤ, Ok, Result, slice_set, sym, refl, ap, ◌∙◌, subst}
+use Rattle.std.proofs.Common.{◌⊎◌, inl, inr, ◌≡◌, ℕ, ◌+◌, Bool, List, ℤ, Ok, Result, slice_set, sym, refl, ap, ◌∙◌, subst}
 use Rattle.grammar.specs.Trees.{Expr, Script}
 use Rattle.layout.specs.Decoding.{node_found, c_integer, c_symbol, c_boolean, c_unit}
 use Rattle.layout.specs.declared.node.Node.{Node}

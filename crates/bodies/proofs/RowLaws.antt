@@ -1,5 +1,5 @@
 -- A begin, and the further parts of one.
-use Rattle.std.proofs.Common.{◌≡◌, ℕ, ◌+◌, ◌<◌, ◌≤◌, List, ◌∷◌, ◌++◌, length, max, Ok, Err, Result, slice_set, sym, refl, ap, ◌∙◌, subst, arith}
+use Rattle.std.proofs.Common.{◌≡◌, ℕ, ◌+◌, ◌<◌, ◌≤◌, List, ◌++◌, Ok, Err, Result, slice_set, sym, refl, ap, ◌∙◌, subst, arith}
 use Rattle.bodies.proofs.DeskLaws.{kept_ready, kept_lying, kept_self}
 use Rattle.bodies.proofs.JudgeLaws.{begin_refused, begin_goes, row_refused, row_goes}
 use Rattle.bodies.proofs.NodeLaws.{Behind, coded_low, coded_after}
@@ -8,7 +8,7 @@ use Rattle.bodies.proofs.SizeLaws.{code_size, codes_size}
 use Rattle.bodies.specs.Parts.{OnExpr, OnRow, Listed, number_of}
 use Rattle.forms.specs.Progress.{puts}
 use Rattle.grammar.specs.Limits.{expr_nodes}
-use Rattle.grammar.specs.Trees.{Expr, Exprs, begin_expr, no_exprs, and_expr, Script}
+use Rattle.grammar.specs.Trees.{Expr, Exprs, begin_expr, and_expr, Script}
 use Rattle.layout.specs.Decoding.{node_found, c_begin, c_none, c_more}
 use Rattle.layout.specs.declared.node.Node.{Node}
 use Rattle.layout.specs.declared.node.NodeForm.TheVariants as form

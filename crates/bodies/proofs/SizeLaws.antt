@@ -1,5 +1,5 @@
 -- How many nodes an expression takes in the node list.
-use Rattle.std.proofs.Common.{◌≡◌, ℕ, ◌+◌, ◌<◌, List, sym, refl, ap, ◌∙◌, arith}
+use Rattle.std.proofs.Common.{◌≡◌, ℕ, ◌+◌, List, arith}
 use Rattle.grammar.specs.Limits.{expr_nodes, exprs_nodes, bindings_nodes, branches_nodes}
 use Rattle.grammar.specs.Trees.{Expr, Exprs, Bindings, Branches}
 use Rattle.layout.specs.Decoding.{node_found, Code, c_integer, c_symbol, c_boolean, c_unit, c_name, c_if, c_begin, c_let, c_case, c_dup, c_apply, Codes, c_none, c_more, Binds, c_body, c_binding, Arms, c_last, c_branch}

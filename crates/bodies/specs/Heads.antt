@@ -1,17 +1,15 @@
 -- What stands at an application's head, and what of its type its arguments are held against.
-use Rattle.std.specs.Prelude.{◌≡◌, ℕ, ◌+◌, nat_lt, ◌&&◌, Bool, List, map, Some, None, Option}
+use Rattle.std.specs.Prelude.{◌≡◌, ℕ, nat_lt, ◌&&◌, Bool, List, Some, None, Option}
 use Rattle.bodies.specs.declared.signature.Signature.{Signature}
 use Rattle.grammar.specs.Trees.{Expr, Script}
 use Rattle.layout.specs.Decoding.{node_found}
-use Rattle.naming.specs.Judges.{Setting, Ready, Coded, Desk, names, meant, rows_of}
+use Rattle.naming.specs.Judges.{Setting, Ready, Coded, Desk, names}
 use Rattle.naming.specs.declared.world.World.{World}
 use Rattle.program.specs.Programs.{program}
-use Rattle.scopes.specs.declared.local.Local.{Local}
 use Rattle.type_rows.specs.Rows.{kind_at, TypesLie, RowsMean, IsKind}
 use Rattle.type_rows.specs.Shapes.{ty}
 use Rattle.type_rows.specs.declared.row.Row.{Row}
 use Rattle.type_rows.specs.declared.value_type.ValueType.{ValueType}
-use Rattle.typing.specs.Contexts.{Context}
 use Rattle.typing.specs.Judging.{head_constructor}
 use Rattle.typing.specs.Types.{Ty, Tys, function, same_type}
 

@@ -1,15 +1,13 @@
 -- What judging an expression's parts leaves: by the judgement of each, as in `Judges` of `naming`.
-use Rattle.std.specs.Prelude.{◌≡◌, ℕ, ◌+◌, ◌≤◌, Bool, true, false, List, ◌∷◌, drop, length, Some, None, Ok, Err, Option, Result}
-use Rattle.std.specs.List.{slice_get}
+use Rattle.std.specs.Prelude.{◌≡◌, ℕ, ◌+◌, Bool, true, false, List, ◌∷◌, drop, Some, None, Ok, Err, Option, Result}
 use Rattle.forms.specs.Progress.{puts}
 use Rattle.globals.specs.Known.{meaning_in}
 use Rattle.grammar.specs.Limits.{expr_nodes, bindings_nodes}
-use Rattle.grammar.specs.Trees.{Ident, Pattern, Expr, Exprs, Bindings, Branches, apply_expr, Script}
+use Rattle.grammar.specs.Trees.{Pattern, Expr, Exprs, Bindings, Branches, apply_expr, Script}
 use Rattle.layout.specs.Decoding as lies
 use Rattle.layout.specs.Decoding.{node_found}
 use Rattle.layout.specs.Literals.{symbol_number}
 use Rattle.layout.specs.Spelling.{Shows}
-use Rattle.layout.specs.declared.node.NodeForm.{NodeForm}
 use Rattle.layout.specs.declared.node.NodeForm.TheVariants as form
 use Rattle.naming.specs.Judges.{Desk, Setting, Ready, Lying, Coded, Answers, ExprAnswers, OnForm, names, meant, vals_of, rows_of, text_of}
 use Rattle.naming.specs.declared.world.World.{World}

@@ -13,9 +13,9 @@ use Rattle.grammar.specs.Trees.{apply_expr}
 use Rattle.layout.specs.Decoding.{node_found}
 use Rattle.layout.specs.declared.node.Node.{Node}
 use Rattle.naming.specs.Binding.{OnPattern}
-use Rattle.naming.specs.Judges.{desk, Coded, Desk, Kept, ExprAnswers, text_of}
+use Rattle.naming.specs.Judges.{desk, Coded, Kept, ExprAnswers, text_of}
 use Rattle.program.specs.Compiling.{code}
-use Rattle.std.proofs.Common.{slice_set, max, min, ◌≡◌, ◌+◌, ◌-◌, ◌<◌, Some, None, Ok, Err, Option, Result, sym, refl, ap, ◌∙◌, subst, arith, rules, false, ◌&&◌}
+use Rattle.std.proofs.Common.{slice_set, max, min, ◌≡◌, ◌+◌, ◌-◌, Some, None, Ok, Err, sym, refl, ap, ◌∙◌, subst, arith, rules, false, ◌&&◌}
 use Rattle.std.proofs.lemmas.Int.{to_z-of_z}
 use Rattle.std.specs.Prelude.{ℕ, ◌||◌, nat_le, slice_index_or}
 use Rattle.type_rows.specs.Rows.{row_at}
