@@ -1,2 +1,3 @@
+pub mod Agreeing
 pub mod Hex
 pub mod Repeated

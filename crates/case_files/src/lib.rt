@@ -13,6 +13,7 @@
 // A program has one word more for the lines of a listing, and may have others of its own.
 #![tactic(auto)]
 
+mod agreeing;
 mod answer;
 mod case;
 mod hex;

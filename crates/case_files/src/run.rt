@@ -1,4 +1,5 @@
 // The run over the case file: the case that is being read, and what was counted.
+use super::agreeing::agrees;
 use super::answer::Answer;
 use super::case::Case;
 use super::line::{Line, parse_line};
@@ -89,9 +90,7 @@ impl<'w, T: Trial + Drop> Run<'w, T> {
 
     fn end_case(&mut self, rt: &HostRuntime, expected: Answer) -> io::Result<()> {
         let found = self.trial.found(rt.alloc(), &self.case.text)?;
-        let listed = self.case.listing.is_empty()
-            || self.case.listing.as_str() == found.listing.as_str();
-        let right = found.answer == expected && listed && found.complaint.is_none();
+        let right = agrees(&found, expected, self.case.listing.as_str());
         if !right {
             self.print_wrong(rt, &found)?;
         }
