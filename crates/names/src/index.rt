@@ -66,6 +66,7 @@ impl Index {
     // A name more, unless it is full: then nothing changes.
     pub fn add(&mut self, text: &[u8], word: Word)
         ensures index { IsIndex text.now self.old → IsIndex text.now self.new }
+        ensures full { length (names_in text.now self.old) ≡ 512 → self.new ≡ self.old }
         ensures names { IsIndex text.now self.old → length (names_in text.now self.old) < 512 → names_in text.now self.new ≡ names_in text.now self.old ++ part_of text.now word ∷ [] }
     {
         let n = self.count;

@@ -1,4 +1,5 @@
-use Rattle.std.proofs.Common.{◌≡◌, length, get_or, set, None, refl, arith, rules}
+use Rattle.std.proofs.Common.{◌≡◌, length, get_or, set, take, None, refl, arith, rules}
+use Rattle.std.proofs.lemmas.List.{length-map, length-take}
 use Rattle.names.specs.Parts.{part_of, bucket_of}
 use Rattle.names.proofs.Adding.{added}
 use Rattle.names.proofs.index.Index.add.Goals as goal
@@ -12,3 +13,9 @@ returns-clause-index c = λ ix.
     let bucket : c.bucket-h.result ≡ bucket_of (part_of c.args.text.now c.args.word) = cc in
     let links : set s.links s.count _ ≡ set s.links s.count (get_or s.heads c.bucket-h.result None) = search rules in
     added c.args.text.now s _ c.args.word c.bucket-h.result bucket refl (omega arith) ix c.bucket-h.ensures.few wide far refl links refl (omega arith)
+
+pub returns-clause-full : goal.returns-clause-full
+returns-clause-full c = λ full.
+    let s = c.args.self.now in
+    let long : length s.names ≡ 512 = search rules in
+    absurd (omega (arith, full, length-map (take s.count s.names) (part_of c.args.text.now), length-take s.count s.names))
