@@ -1,5 +1,5 @@
 -- The number of each fault.
-use Rattle.std.specs.Prelude.{ℕ}
+use Rattle.std.specs.Prelude.{ℕ, Some, None, Option}
 use Rattle.cells.specs.declared.refusals.StoreRefusal.{StoreRefusal}
 use Rattle.cells.specs.declared.refusals.StoreRefusal.TheVariants as store
 use Rattle.data.specs.declared.refusals.WalkRefusal.{WalkRefusal}
@@ -15,6 +15,11 @@ number_of TooFewCells = 34
 number_of StackFull = 35
 number_of Stuck = 36
 number_of AllowanceSpent = 37
+
+-- the store's refusal that a fault carries
+abbrev pub carried : FaultKind → Option StoreRefusal
+carried TooFewCells = Some store.NoFreeCell
+carried _ = None
 
 -- what a store's refusal is to a run
 abbrev pub store_fault : StoreRefusal → FaultKind

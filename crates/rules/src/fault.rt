@@ -1,6 +1,6 @@
 // Why a run stopped, and where.
 ghost use Rattle.std.specs.Prelude.{◌≡◌};
-ghost use Rattle.rules.specs.Faults.{number_of, store_fault, walk_fault};
+ghost use Rattle.rules.specs.Faults.{number_of, carried, store_fault, walk_fault};
 ghost use Rattle.rules.specs.Steps.{fault_kind};
 ghost use Rattle.rules.specs.declared.fault.FaultKind.TheVariants as kind;
 
@@ -35,6 +35,16 @@ impl FaultKind {
         ensures { result ≡ number_of self }
     {
         self as u8
+    }
+
+    // The refusal of the store that it carries: too few cells are free for a step exactly where the store would refuse to give them.
+    pub fn store_refusal(self) -> Option<StoreRefusal>
+        ensures { result ≡ carried self }
+    {
+        match self {
+            FaultKind::TooFewCells => Some(StoreRefusal::NoFreeCell),
+            _ => None,
+        }
     }
 }
 
