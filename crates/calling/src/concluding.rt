@@ -20,6 +20,7 @@ use machine::{Control, Halt, Machine, unprinted};
 use rules::FaultKind;
 
 // Its value is finished.
+#[inline(always)]
 fn give(machine: &mut Machine<'_, '_>, count: usize, value: Value) -> Result<(), FaultKind>
     ensures steady { Steady machine.old machine.new }
     ensures law { (P : Program) (Z : Sizes) (m₀ m : Cells) (s : State) (K : List Waits) (env : Environment) (a : Account) (t : Tree)
@@ -31,6 +32,7 @@ fn give(machine: &mut Machine<'_, '_>, count: usize, value: Value) -> Result<(),
 }
 
 // Its value is the next byte of the input, or -1 at the end.
+#[inline(never)]
 fn take_byte(machine: &mut Machine<'_, '_>, count: usize) -> Result<(), FaultKind>
     ensures steady { Steady machine.old machine.new }
     ensures law { (P : Program) (Z : Sizes) (m₀ m : Cells) (s : State) (K : List Waits) (env : Environment) (a : Account)
@@ -45,7 +47,13 @@ fn take_byte(machine: &mut Machine<'_, '_>, count: usize) -> Result<(), FaultKin
 }
 
 // It prints, and its value is unit.
-fn put(machine: &mut Machine<'_, '_>, out: &mut [u8], count: usize, print: Print) -> Result<usize, Halt>
+#[inline(never)]
+fn put(
+    machine: &mut Machine<'_, '_>,
+    out: &mut [u8],
+    count: usize,
+    print: Print,
+) -> Result<usize, Halt>
     ensures steady { Steady machine.old machine.new }
     ensures spares { Spares result out.old out.new }
     ensures law { (P : Program) (Z : Sizes) (m₀ m : Cells) (s : State) (K : List Waits) (env : Environment) (a : Account)
@@ -60,6 +68,8 @@ fn put(machine: &mut Machine<'_, '_>, out: &mut [u8], count: usize, print: Print
 }
 
 // By what the call comes to; so many arguments lie on the slots.
+// Many steps end here, and few print or read: with those apart a step keeps what it works on in registers.
+#[inline(always)]
 pub fn conclude(
     machine: &mut Machine<'_, '_>,
     out: &mut [u8],
