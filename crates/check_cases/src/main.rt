@@ -5,7 +5,9 @@
 //
 //   row LINE                        a line of the explanation of a refusal of the check, where a case says how it reads
 //   lent N                          the node list has N entries; 4096 where a case does not say
-//   changed text|nodes              the check is handed another text, or a node list whose first entry is another
+//   changed text                    the check is handed another text
+//   changed nodes|last              it is handed a node list whose first, or last, entry is another
+//   changed shorter                 it is handed a node list without its last entry
 //
 // A case without a `text`, `times` or `hex` line is the empty text.
 #![tactic(auto)]

@@ -1,6 +1,7 @@
 // What the check finds of the text of a case.
 use case_files::{Answer, Found, Refused, Trial};
 use checking::check;
+use entries::put;
 use first_uses::explain_check;
 use layout::{NODES, Node, NodeForm};
 use parser::{Script, read};
@@ -17,7 +18,10 @@ const OTHER: Node = Node {
 #[derive(Clone, Copy, PartialEq, Eq)]
 enum Change {
     Text,
-    Nodes,
+    // another first entry, another last one, or the last one missing
+    First,
+    Last,
+    Shorter,
 }
 
 // How many entries the node list of the next text has, and what is changed before the check.
@@ -76,15 +80,20 @@ fn judged(
         Ok(script) => script,
         Err(refused) => return Ok(found(heap, Err(Refused::from(refused)))),
     };
-    if changed == Some(Change::Text) {
-        return checked(heap, &script, b"", nodes);
-    }
-    if changed == Some(Change::Nodes) {
-        if let Some(node) = nodes.first_mut() {
-            *node = OTHER;
+    let last = nodes.len().saturating_sub(1);
+    match changed {
+        None => checked(heap, &script, text, nodes),
+        Some(Change::Text) => checked(heap, &script, b"", nodes),
+        Some(Change::First) => {
+            put(nodes, 0, OTHER);
+            checked(heap, &script, text, nodes)
         }
+        Some(Change::Last) => {
+            put(nodes, last, OTHER);
+            checked(heap, &script, text, nodes)
+        }
+        Some(Change::Shorter) => checked(heap, &script, text, &nodes[..last]),
     }
-    checked(heap, &script, text, nodes)
 }
 
 impl Trial for Scripts {
@@ -94,7 +103,9 @@ impl Trial for Scripts {
             "changed" => {
                 self.changed = match rest {
                     "text" => Some(Change::Text),
-                    "nodes" => Some(Change::Nodes),
+                    "nodes" => Some(Change::First),
+                    "last" => Some(Change::Last),
+                    "shorter" => Some(Change::Shorter),
                     _ => return None,
                 }
             }
