@@ -1,20 +1,21 @@
 -- An advance by its turns.
-use Rattle.std.proofs.Common.{◌≡◌, ℕ, ◌+◌, ◌-◌, ◌<◌, ◌≤◌, List, [], ◌++◌, length, take, drop, sym, refl, ap, ◌∙◌, arith, append_assoc, append-nil, length-append, length-drop}
+use Rattle.std.proofs.Common.{None, ◌≡◌, ℕ, ◌+◌, ◌-◌, ◌<◌, ◌≤◌, List, [], ◌++◌, length, take, drop, sym, refl, ap, ◌∙◌, arith, append_assoc, append-nil, length-append, length-drop, subst}
 use Rattle.std.proofs.Math.Seq.{take-append-add, take-append_seam, drop-append-add}
 use Rattle.std.proofs.lemmas.List.{take-append-le, drop-append-le, take-append-drop, drop-drop, length-take-le}
 use Rattle.std.proofs.lemmas.List.{take_all}
 use Rattle.std.proofs.lemmas.Slice.{take-put_mid_below}
 use borrow.Rule.Slice.PartMut.{put_mid, same_len_mid}
 use Rattle.cells.specs.Meaning.{Cells}
+use Rattle.machine.specs.declared.machine.Machine.{Machine}
 use Rattle.program.specs.Programs.{program}
 use Rattle.rules.specs.declared.answers.End.{End}
 use Rattle.rules.specs.Runs as rules
 use Rattle.rules.specs.Runs.{Answer, allowed, stopped, after, ends, moves}
 use Rattle.rules.proofs.Cuts.{advance_ends, advance_moves}
-use Rattle.run.specs.Insides.{Inside, Turned, turned_ends, turned_moves, Underway, before, Spares, Steady}
+use Rattle.run.specs.Insides.{Inside, run_of, Ends, Moves, Turned, turned_ends, turned_moves, Underway, before, Spares}
+use Rattle.machine.specs.Mirrors.{Steady}
 use Rattle.run.specs.Openings.{Opening, sizes_of, turn_of, answer_of}
 use Rattle.run.specs.declared.runs.Run.{Run}
-use Rattle.run.specs.declared.turns.Turn.TheVariants.{Ends, Moves}
 
 -- A part of a slice, k elements from place i on, was written.
 module _ (i k : ℕ) (xs ys : List ℕ) (n : ℕ) (within : i + k ≤ length xs) (full : length ys ≡ k) (fits : n ≤ k) where
@@ -47,8 +48,8 @@ spares_more i k n old xs ys within a b =
       long = same_len_mid i k xs ys b.long ∙ a.long;
     }
 
-pub steady_then : {a b c : Run} → Steady a b → Steady b c → Steady a c
-steady_then x y = record { steps = omega (arith, x.steps, y.steps); taken = omega (arith, x.taken, y.taken); given = omega (arith, x.given, y.given) }
+pub steady_then : {a b c : Machine} → Steady a b → Steady b c → Steady a c
+steady_then x y = record { taken = omega (arith, x.taken, y.taken); given = omega (arith, x.given, y.given) }
 
 before_none : (o : Answer) → before 0 [] o ≡ o
 before_none o = let z : 0 + o.steps ≡ o.steps = omega arith in ap (λ (n : ℕ). record o { steps = n }) z
@@ -62,7 +63,7 @@ before_stopped : (steps : ℕ) (said : List ℕ) (e : End) (r : rules.Run) → b
 before_stopped steps said e r = let z : steps + 0 ≡ steps = omega arith in rw (z, append-nil said) refl
 
 module _ (o : Opening) (r : rules.Run) (count room : ℕ) where
-  pub underway_none : {out : List ℕ} {run : Run} {m : Cells} → Inside o r run m → Underway o r count room 0 0 out run m
+  pub underway_none : {out : List ℕ} {M : Machine} {m : Cells} → Inside o r (run_of o r M) m → Underway o r count room 0 0 out M m
   underway_none I =
       let a : count - 0 ≡ count = omega arith in
       let b : room - 0 ≡ room = omega arith in
@@ -72,19 +73,22 @@ module _ (o : Opening) (r : rules.Run) (count room : ℕ) where
         same = sym (ap (λ (n : ℕ). before 0 [] (answer_of o r n (room - 0))) a ∙ (ap (λ (n : ℕ). before 0 [] (answer_of o r count n)) b ∙ before_none (answer_of o r count room)));
         long = refl;
         wrote = refl;
+        counted = omega arith;
         inside = I;
       }
 
   left_room : (bytes : ℕ) (out : List ℕ) → length out ≡ room → length (drop bytes out) ≡ room - bytes
   left_room bytes out long = omega (arith, length-drop bytes out)
 
-  module _ (steps bytes : ℕ) (out : List ℕ) (long : length out ≡ room) (within : bytes ≤ length out) {run : Run} {m : Cells} (U : Underway o r count room steps bytes out run m) (run' : Run) (m' : Cells) where
+  module _ (steps bytes : ℕ) (out : List ℕ) (long : length out ≡ room) (within : bytes ≤ length out) {M : Machine} {m : Cells} (U : Underway o r count room steps bytes out M m) (m' : Cells) where
     -- a step more
-    pub underway_more : {n : ℕ} {new : List ℕ} → steps < count → length new ≡ length (drop bytes out) → n ≤ length new → Turned o (drop bytes out) (turn_of o (count - steps) (length (drop bytes out)) U.here) (Moves n) new run' m'
-        → Underway o r count room (steps + 1) (bytes + n) (put_mid bytes (length out - bytes) out new) run' m'
-    underway_more {n} {new} some same_long fits T = by (turn_of o (count - steps) (length (drop bytes out)) U.here) refl T
+    pub underway_more : {n : ℕ} {new : List ℕ} (M' : Machine) → steps < count → length new ≡ length (drop bytes out) → n ≤ length new
+        → Turned o (drop bytes out) (turn_of o (count - steps) (length (drop bytes out)) U.here) (Moves n) new (record { machine = M'; allowance = allowed o.allowance; steps = U.here.steps + 1; fault = None }) m'
+        → Underway o r count room (steps + 1) (bytes + n) (put_mid bytes (length out - bytes) out new) M' m'
+    underway_more {n} {new} M' some same_long fits T = by (turn_of o (count - steps) (length (drop bytes out)) U.here) refl T
       where
-        by : (t : rules.Turn) → turn_of o (count - steps) (length (drop bytes out)) U.here ≡ t → Turned o (drop bytes out) t (Moves n) new run' m' → Underway o r count room (steps + 1) (bytes + n) (put_mid bytes (length out - bytes) out new) run' m'
+        by : (t : rules.Turn) → turn_of o (count - steps) (length (drop bytes out)) U.here ≡ t → Turned o (drop bytes out) t (Moves n) new (record { machine = M'; allowance = allowed o.allowance; steps = U.here.steps + 1; fault = None }) m'
+            → Underway o r count room (steps + 1) (bytes + n) (put_mid bytes (length out - bytes) out new) M' m'
         by _ e (turned_moves {bytes = bs} {r = next} k f w I) =
             let one = advance_moves (program o.script) (sizes_of o) (allowed o.allowance) (count - steps) (count - (steps + 1)) (length (drop bytes out)) U.here (omega arith) e in
             let left : length (drop bytes out) - length bs ≡ room - (bytes + n) = omega (arith, (left_room bytes out long)) in
@@ -98,21 +102,22 @@ module _ (o : Opening) (r : rules.Run) (count room : ℕ) where
                   ∙ ap (λ (n : ℕ). before (steps + 1) (U.said ++ bs) (answer_of o next (count - (steps + 1)) n)) left)));
               long = omega (arith, length-append U.said bs, U.long);
               wrote = front_then bytes (length out - bytes) out new n (omega arith) (omega (arith, same_long, length-drop bytes out)) (omega (arith, same_long, fits, length-drop bytes out)) ∙ (ap (λ l. l ++ take n new) U.wrote ∙ ap (λ l. U.said ++ l) printed);
-              inside = I;
+              counted = omega (arith, I.steps, U.counted);
+              inside = subst (λ (n : ℕ). Inside o next (record { machine = M'; allowance = allowed o.allowance; steps = n; fault = None }) m') I.steps I;
             }
 
     -- the end
-    pub record EndedSo (e : End) (out' : List ℕ) : Type 0 where
+    pub record EndedSo (e : End) (out' : List ℕ) (run' : Run) : Type 0 where
       pub next : rules.Run
       pub answer : answer_of o r count room ≡ record { end = e; steps = steps; bytes = U.said; run = next }
       pub wrote : take bytes out' ≡ U.said
       pub inside : Inside o next run' m'
 
-    pub underway_ends : {e : End} {new : List ℕ} → Turned o (drop bytes out) (turn_of o (count - steps) (length (drop bytes out)) U.here) (Ends e) new run' m'
-        → EndedSo e (put_mid bytes (length out - bytes) out new)
-    underway_ends {e} {new} T = by (turn_of o (count - steps) (length (drop bytes out)) U.here) refl T
+    pub underway_ends : {e : End} {new : List ℕ} {run' : Run} → Turned o (drop bytes out) (turn_of o (count - steps) (length (drop bytes out)) U.here) (Ends e) new run' m'
+        → EndedSo e (put_mid bytes (length out - bytes) out new) run'
+    underway_ends {e} {new} {run'} T = by (turn_of o (count - steps) (length (drop bytes out)) U.here) refl T
       where
-        by : (t : rules.Turn) → turn_of o (count - steps) (length (drop bytes out)) U.here ≡ t → Turned o (drop bytes out) t (Ends e) new run' m' → EndedSo e (put_mid bytes (length out - bytes) out new)
+        by : (t : rules.Turn) → turn_of o (count - steps) (length (drop bytes out)) U.here ≡ t → Turned o (drop bytes out) t (Ends e) new run' m' → EndedSo e (put_mid bytes (length out - bytes) out new) run'
         by _ q (turned_ends {r = next} w I) =
             let one = advance_ends (program o.script) (sizes_of o) (allowed o.allowance) (count - steps) (length (drop bytes out)) U.here q in
             record {

@@ -6,3 +6,4 @@ pub mod Dropping
 pub mod Tests
 pub mod Advancing
 pub mod Following
+pub mod Settling

@@ -13,6 +13,7 @@ use Rattle.machine.specs.declared.machine.Machine.{Machine}
 use Rattle.program.specs.Programs.{Program, program}
 use Rattle.program.specs.Scopes.{Scope}
 use Rattle.program.specs.declared.code.Code.{Code}
+use Rattle.rules.specs.declared.answers.End.{End}
 use Rattle.rules.specs.declared.answers.End.TheVariants as end
 use Rattle.rules.specs.declared.fault.Fault.{Fault}
 use Rattle.rules.specs.declared.fault.FaultKind.{FaultKind}
@@ -25,12 +26,10 @@ use Rattle.rules.proofs.Advances.{Going, going_opened, going_enter, going_finish
 use Rattle.rules.proofs.Checked.{types, script_ok, main_ok}
 use Rattle.rules.proofs.Shortage.{Exact, exact_calm, exact_goes, exact_short, exact_fails, exact_stuck, step_exact}
 use Rattle.rules.proofs.Soundness.{Unstuck, Sound, step_good}
-use Rattle.rules.proofs.Turns.{Live, Ready, turn_faulted, turn_over, turn_paused, turn_spent, turn_fails, turn_full, turn_steps}
-use Rattle.run.specs.Insides.{Inside, Turned, turned_ends, turned_moves, Failed}
+use Rattle.rules.proofs.Turns.{Live, Ready, turn_over, turn_paused, turn_spent, turn_fails, turn_full, turn_steps}
+use Rattle.run.specs.Insides.{Inside, Ends, Moves, Turned, turned_ends, turned_moves, Failed}
 use Rattle.run.specs.Openings.{Opening, sizes_of, turn_of}
 use Rattle.run.specs.declared.runs.Run.{Run}
-use Rattle.run.specs.declared.turns.Turn.{Turn}
-use Rattle.run.specs.declared.turns.Turn.TheVariants.{Ends, Moves}
 use Rattle.stepping.proofs.Literals.{literals}
 use Rattle.stepping.proofs.Speech.{step_leads, Leads}
 use Rattle.typing.specs.Types.{Ty}
@@ -96,9 +95,6 @@ module _ (o : Opening) where
     good g = step_good P (types o.script I.lawful) (script_ok o.script I.lawful) Z (main_of P) (main_ok o.script I.lawful) r.state g I.sound
 
     module _ (left : ℕ) (out : List ℕ) where
-      pub still_faulted : {f : Fault} → run.fault ≡ Some f → Turned o out (turn_of o left (length out) r) (Ends (end.Faulted f)) out run m
-      still_faulted {f} e = subst (λ t. Turned o out t (Ends (end.Faulted f)) out run m) (sym (turn_faulted P Z (allowed o.allowance) left (length out) r (sym I.fault ∙ e))) (turned_ends refl I)
-
       pub has_ended : run.fault ≡ None → run.machine.control ≡ Over → Turned o out (turn_of o left (length out) r) (Ends end.Ended) out run m
       has_ended e k = subst (λ t. Turned o out t (Ends end.Ended) out run m) (sym (turn_over P Z (allowed o.allowance) left (length out) r (sym I.fault ∙ e) (over_in Z (allowed o.allowance) I.mirrored k))) (turned_ends refl I)
 
@@ -106,8 +102,8 @@ module _ (o : Opening) where
       has_paused e n z = subst (λ t. Turned o out t (Ends end.Paused) out run m) (sym (turn_paused P Z (allowed o.allowance) left (length out) r (live e n) z)) (turned_ends refl I)
 
       -- a fault of the next step, over a machine that mirrors the state still
-      module _ (kind : FaultKind) (function : Option Basis) {old new : Run} {m' : Cells} {t : Turn}
-          (M : Mirrors P Z o.cells r.state old.machine m') (allowance : old.allowance ≡ run.allowance) (steps : old.steps ≡ run.steps) (F : Failed old kind function t new) where
+      module _ (kind : FaultKind) (function : Option Basis) {old new : Run} {m' : Cells} {e : End}
+          (M : Mirrors P Z o.cells r.state old.machine m') (allowance : old.allowance ≡ run.allowance) (steps : old.steps ≡ run.steps) (F : Failed old kind function e new) where
         abbrev f : Fault
         f = fault_there P (step_place (main_of P) r.state) kind function
 
@@ -127,13 +123,14 @@ module _ (o : Opening) where
               few = I.few;
             })
 
-        failed_turn : {out' : List ℕ} → out' ≡ out → Turned o out (ends (end.Faulted f) (with_fault f r)) t out' new m'
-        failed_turn {out'} w = subst (λ (t : Turn). Turned o out (ends (end.Faulted f) (with_fault f r)) t out' new m') (sym (F.answer ∙ ap (λ (f : Fault). Ends (end.Faulted f)) (F.is P Z o.cells m' r.state M))) (turned_ends w failed_inside)
+        failed_turn : {out' : List ℕ} → out' ≡ out → Turned o out (ends (end.Faulted f) (with_fault f r)) (Ends e) out' new m'
+        failed_turn {out'} w =
+            subst (λ (e : End). Turned o out (ends (end.Faulted f) (with_fault f r)) (Ends e) out' new m') (sym (F.answer ∙ ap (λ (f : Fault). end.Faulted f) (F.is P Z o.cells m' r.state M))) (turned_ends w failed_inside)
 
-      pub has_spent : {new : Run} {t : Turn} → run.fault ≡ None → run.machine.control ≢ Over → left ≢ 0 → run.allowance ≤ run.steps → Failed run AllowanceSpent None t new
-          → Turned o out (turn_of o left (length out) r) t out new m
-      has_spent {new} {t} e n l h F =
-          subst (λ q. Turned o out q t out new m) (sym (turn_spent P Z (allowed o.allowance) left (length out) r (live e n) l (omega (arith, I.allowance, I.steps, h))))
+      pub has_spent : {new : Run} {b : End} → run.fault ≡ None → run.machine.control ≢ Over → left ≢ 0 → run.allowance ≤ run.steps → Failed run AllowanceSpent None b new
+          → Turned o out (turn_of o left (length out) r) (Ends b) out new m
+      has_spent {new} {b} e n l h F =
+          subst (λ q. Turned o out q (Ends b) out new m) (sym (turn_spent P Z (allowed o.allowance) left (length out) r (live e n) l (omega (arith, I.allowance, I.steps, h))))
           (failed_turn AllowanceSpent None I.mirrored refl refl F refl)
 
       -- where a step is due
@@ -180,10 +177,10 @@ module _ (o : Opening) where
                 subst (λ t. Turned o out t (Ends end.OutputFull) new (record { machine = M; allowance = run.allowance; steps = run.steps; fault = run.fault }) m') (sym (turn_full P Z (allowed o.allowance) left (length out) r due q f))
                 (turned_ends w (record { lawful = I.lawful; mirrored = K; spoken = I.spoken; small = I.small; sound = I.sound; allowance = I.allowance; steps = I.steps; fault = I.fault; within = I.within; few = I.few }))
 
-        pub has_failed : {M : Machine} {m' : Cells} {new : List ℕ} {kind : FaultKind} {function : Option Basis} {now : Run} {t : Turn} {stop : Halt} → stop ≡ halt.Failed kind function → Printed P Z o.cells r.state out (step P Z (main_of P) r.state) (Err stop) M m' new
-            → Failed (record { machine = M; allowance = run.allowance; steps = run.steps; fault = run.fault }) kind function t now → Turned o out (turn_of o left (length out) r) t new now m'
+        pub has_failed : {M : Machine} {m' : Cells} {new : List ℕ} {kind : FaultKind} {function : Option Basis} {now : Run} {t : End} {stop : Halt} → stop ≡ halt.Failed kind function → Printed P Z o.cells r.state out (step P Z (main_of P) r.state) (Err stop) M m' new
+            → Failed (record { machine = M; allowance = run.allowance; steps = run.steps; fault = run.fault }) kind function t now → Turned o out (turn_of o left (length out) r) (Ends t) new now m'
         has_failed {M} {m'} {new} {kind} {function} {now} {t} b p F = by (subst (λ x. Came r.state out M m' new (Err x)) b (came (types o.script I.lawful) (step P Z (main_of P) r.state) refl (good (going_in I.mirrored n)) p))
           where
-            by : Came r.state out M m' new (Err (halt.Failed kind function)) → Turned o out (turn_of o left (length out) r) t new now m'
+            by : Came r.state out M m' new (Err (halt.Failed kind function)) → Turned o out (turn_of o left (length out) r) (Ends t) new now m'
             by (came_not q w K) =
-                subst (λ q. Turned o out q t new now m') (sym (turn_fails P Z (allowed o.allowance) left (length out) r due q)) (failed_turn kind function K refl refl F w)
+                subst (λ q. Turned o out q (Ends t) new now m') (sym (turn_fails P Z (allowed o.allowance) left (length out) r due q)) (failed_turn kind function K refl refl F w)

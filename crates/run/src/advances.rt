@@ -5,9 +5,9 @@ ghost use Rattle.run.specs.Openings.{Opening, Made, made};
 ghost use Rattle.run.specs.Stands.{Stands};
 
 use super::runs::{OpenRun, Run};
-use super::turns::{Turn, take_turn};
+use super::stretches::go_on;
 use cells::store::CellStore;
-use rules::Advanced;
+use rules::{Advanced, End};
 
 // At most so many steps. What they print goes to the front of the slice, and the rest of it stays as it was.
 pub fn advance<S: CellStore>(
@@ -24,15 +24,19 @@ pub fn advance<S: CellStore>(
         → Stands o (h ++ made count (length out.old) result (take result.bytes out.new) ∷ []) run.new (S.CellStore.cells store.new) }
 {
     let OpenRun { open: _ } = open;
-    let mut steps = 0;
-    let mut bytes = 0;
-    loop {
-        match take_turn(run, store, &mut out[bytes..], count - steps) {
-            Turn::Ends(end) => return Advanced { end, steps, bytes },
-            Turn::Moves(printed) => {
-                steps += 1;
-                bytes += printed;
-            }
-        }
+    if let Some(fault) = run.fault {
+        return Advanced {
+            end: End::Faulted(fault),
+            steps: 0,
+            bytes: 0,
+        };
+    }
+    let left = run.allowance.saturating_sub(run.steps);
+    let stretch = go_on(&mut run.machine, store, out, count.min(left));
+    run.steps = run.steps.saturating_add(stretch.steps);
+    Advanced {
+        end: run.end_by(stretch.stop, stretch.steps == count),
+        steps: stretch.steps,
+        bytes: stretch.bytes,
     }
 }

@@ -3,12 +3,13 @@
 
 mod advances;
 mod closing;
+mod ends;
 mod faults;
 mod opening;
 mod owners;
 mod places;
 mod runs;
-mod turns;
+mod stretches;
 
 pub use advances::advance;
 pub use closing::close;

@@ -14,13 +14,11 @@ pub struct Run<'a, 'v> {
     pub(crate) fault: Option<Fault>,
 }
 
-impl<'a, 'v> Run<'a, 'v> {
-    // Whether it has ended.
-    pub(crate) fn is_over(&self) -> bool
-        ensures { IsTrue result ↔ self.now.machine.control ≡ Over }
-    {
-        matches!(self.machine.control, Control::Over)
-    }
+// Whether a run has ended.
+pub(crate) fn is_over(machine: &Machine<'_, '_>) -> bool
+    ensures { IsTrue result ↔ machine.now.control ≡ Over }
+{
+    matches!(machine.control, Control::Over)
 }
 
 // Stands for a run that must be closed: opening makes one, and only closing takes it. It has no Drop, so a program that lets one go does
