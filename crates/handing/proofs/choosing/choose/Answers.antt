@@ -11,7 +11,7 @@ returns-in-Any c = λ P G bs F S. chosen_any (c.loop-node.invariant P G bs F S) 
 
 pub returns-then-other-constructor : goal.returns-then-other-constructor
 returns-then-other-constructor c = λ P G bs F S.
-    chosen_fields (c.loop-node.invariant P G bs F S) c.loop-node-test.true (c.code_at-code.ensures.used (λ u. let is = c.in-Branch.is in cc)) (sym (ap (λ (x : Code). x.op) c.code_at-code.ensures.code) ∙ c.in-Branch.is) c.if-other-constructor.true
+    chosen_fields (c.loop-node.invariant P G bs F S) c.loop-node-test.true (c.code_at-code.ensures.used (λ u. let is = c.in-Branch.is in cc)) (sym (ap (λ (x : Code). x.op) c.code_at-code.ensures.code) ∙ c.in-Branch.is) (search c.if-other-constructor.true)
 
 pub returns-in_default : goal.returns-in_default
 returns-in_default c = λ P G bs F S.
