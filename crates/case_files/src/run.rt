@@ -1,4 +1,7 @@
 // The run over the case file: the case that is being read, and what was counted.
+ghost use Rattle.std.specs.Prelude.{◌≡◌, ◌↔◌, ◌+◌, min, true, false, IsTrue, string_bytes};
+ghost use Rattle.case_files.specs.Agreeing.{Agrees};
+
 use super::agreeing::agrees;
 use super::answer::Answer;
 use super::case::Case;
@@ -88,14 +91,22 @@ impl<'w, T: Trial + Drop> Run<'w, T> {
         Ok(())
     }
 
-    fn end_case(&mut self, rt: &HostRuntime, expected: Answer) -> io::Result<()> {
-        let found = self.trial.found(rt.alloc(), &self.case.text)?;
-        let right = agrees(&found, expected, self.case.listing.as_str());
-        if !right {
-            self.print_wrong(rt, &found)?;
-        }
+    // Counts the case as right or wrong.
+    fn judge(&mut self, found: &Found, expected: Answer) -> bool
+        ensures right { IsTrue result ↔ Agrees found.now expected (string_bytes self.old.case.listing) }
+        ensures wrong { elim result [ true ↦ self.new.whole.wrong ≡ self.old.whole.wrong | false ↦ self.new.whole.wrong ≡ min (self.old.whole.wrong + 1) 4294967295 ] }
+    {
+        let right = agrees(found, expected, self.case.listing.as_str());
         self.group.count(expected, right);
         self.whole.count(expected, right);
+        right
+    }
+
+    fn end_case(&mut self, rt: &HostRuntime, expected: Answer) -> io::Result<()> {
+        let found = self.trial.found(rt.alloc(), &self.case.text)?;
+        if !self.judge(&found, expected) {
+            self.print_wrong(rt, &found)?;
+        }
         self.case.clear();
         Ok(())
     }
