@@ -1,4 +1,8 @@
 // What became of a script, in numbers.
+ghost use Rattle.std.specs.Prelude.{◌≡◌, min};
+ghost use Rattle.c_host.specs.Told as tell;
+ghost use Rattle.rules.specs.declared.answers.End.TheVariants.{Faulted};
+
 use rules::{Closed, End, Fault, Named};
 use script_refusals::Refused;
 
@@ -61,7 +65,9 @@ impl Answer {
         given_back: 0,
     };
 
-    pub(crate) fn refused(refused: Refused) -> Answer {
+    pub(crate) fn refused(refused: Refused) -> Answer
+        ensures { result ≡ tell.refused refused }
+    {
         Answer {
             kind: REFUSED,
             number: u32::from(refused.refusal.number()),
@@ -70,12 +76,27 @@ impl Answer {
         }
     }
 
-    fn faulted(fault: Fault) -> Answer {
+    // A run that was closed, in what way it ended, and how many bytes it wrote.
+    fn ended(kind: u32, bytes: u32, closed: Closed) -> Answer
+        ensures { result ≡ tell.ended kind bytes closed.steps closed.taken closed.given_back }
+    {
+        Answer {
+            kind,
+            steps: closed.steps,
+            bytes,
+            taken: closed.taken,
+            given_back: closed.given_back,
+            ..Answer::ACCEPTED
+        }
+    }
+
+    fn faulted(fault: Fault, bytes: u32, closed: Closed) -> Answer
+        ensures { result ≡ tell.closed (Faulted fault) bytes closed.steps closed.taken closed.given_back }
+    {
         let front = Answer {
-            kind: FAULTED,
             number: u32::from(fault.kind.number()),
             place: u32::from(fault.place),
-            ..Answer::ACCEPTED
+            ..Answer::ended(FAULTED, bytes, closed)
         };
         match fault.function {
             Named::Basis(basis) => Answer {
@@ -92,24 +113,14 @@ impl Answer {
     }
 
     // A run that was advanced to this end, having written so many bytes, and closed.
-    pub(crate) fn closed(end: End, bytes: usize, closed: Closed) -> Answer {
-        let front = match end {
-            End::Ended => Answer {
-                kind: ENDED,
-                ..Answer::ACCEPTED
-            },
-            End::Faulted(fault) => Answer::faulted(fault),
-            End::OutputFull | End::Paused => Answer {
-                kind: FULL,
-                ..Answer::ACCEPTED
-            },
-        };
-        Answer {
-            steps: closed.steps,
-            bytes: bytes.min(u32::MAX as usize) as u32,
-            taken: closed.taken,
-            given_back: closed.given_back,
-            ..front
+    pub(crate) fn closed(end: End, bytes: usize, closed: Closed) -> Answer
+        ensures { result ≡ tell.closed end (min bytes 4294967295) closed.steps closed.taken closed.given_back }
+    {
+        let bytes = bytes.min(u32::MAX as usize) as u32;
+        match end {
+            End::Ended => Answer::ended(ENDED, bytes, closed),
+            End::Faulted(fault) => Answer::faulted(fault, bytes, closed),
+            End::OutputFull | End::Paused => Answer::ended(FULL, bytes, closed),
         }
     }
 }

@@ -2,6 +2,10 @@
 // heap and given back before the call returns, and each run is closed.
 #![tactic(auto)]
 
+ghost use Rattle.std.specs.Prelude.{◌≡◌, ◌≢◌};
+ghost use Rattle.c_host.specs.Told.{no_memory, checked, Ran};
+ghost use Rattle.rehearsal.specs.Judged.{judgement};
+
 mod answer;
 mod sizes;
 mod whole;
@@ -13,7 +17,9 @@ use whole::{checked_so, run_so};
 
 // Reads and checks a script.
 #[unsafe(no_mangle)]
-pub extern "C" fn tosspear_check(heap: Global, text: &[u8], answer: &mut Answer) {
+pub extern "C" fn tosspear_check(heap: Global, text: &[u8], answer: &mut Answer)
+    ensures { answer.new ≢ no_memory → answer.new ≡ checked (judgement text.now 4096) }
+{
     *answer = checked_so(heap, text).unwrap_or(Answer::NO_MEMORY);
 }
 
@@ -26,6 +32,9 @@ pub extern "C" fn tosspear_run(
     out: &mut [u8],
     sizes: &Sizes,
     answer: &mut Answer,
-) {
+)
+    ensures ran { answer.new ≢ no_memory → Ran input.now sizes.now out.old (judgement text.now sizes.now.nodes) answer.new out.new }
+    ensures same { answer.new ≡ no_memory → out.new ≡ out.old }
+{
     *answer = run_so(heap, text, input, out, *sizes).unwrap_or(Answer::NO_MEMORY);
 }

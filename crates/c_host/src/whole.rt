@@ -1,66 +1,79 @@
 // A script from its text to its end.
+ghost use Rattle.std.specs.Prelude.{◌≡◌, IfOk, IfErr};
+ghost use Rattle.c_host.specs.Told.{checked, Ran};
+ghost use Rattle.rehearsal.specs.Judged.{judgement};
+
 use super::answer::Answer;
 use super::sizes::Sizes;
 use chain::slots::ChainSlot;
 use chain::store::ChainStore;
-use checking::{Checked, check};
 use layout::{NODES, Node};
 use machine::Frame;
-use parser::read;
-use run::{advance, close, open};
-use script_refusals::Refused;
+use rehearsal::{Ask, conduct};
 use shelf::Shelf;
 use std::alloc::{AllocError, Global};
 
-fn judge<'t>(text: &'t [u8], nodes: &mut [Node]) -> Result<Checked<'t>, Refused> {
-    let script = read(text, nodes)?;
-    check(&script, text, nodes)
-}
-
-pub(crate) fn checked_so(heap: Global, text: &[u8]) -> Result<Answer, AllocError> {
+// A script is accepted exactly where a run of it could begin: this one has nothing, and takes no step.
+pub(crate) fn checked_so(heap: Global, text: &[u8]) -> Result<Answer, AllocError>
+    ensures { IfOk result (λ x. x ≡ checked (judgement text.now 4096)) }
+{
     let mut nodes = vec![in heap; Node::UNUSED; NODES]?;
-    match judge(text, &mut nodes) {
+    let mut store = ChainStore::new(&mut []);
+    match conduct(
+        text,
+        &mut nodes,
+        &mut store,
+        &[],
+        &mut [],
+        &mut [],
+        0,
+        &mut [],
+        &mut [],
+    ) {
         Ok(_) => Ok(Answer::ACCEPTED),
         Err(refused) => Ok(Answer::refused(refused)),
     }
 }
 
-// One advance of a checked script, and its close.
-fn one_advance(
-    heap: Global,
-    script: &Checked<'_>,
-    input: &[u8],
-    out: &mut [u8],
-    sizes: Sizes,
-) -> Result<Answer, AllocError> {
-    let mut cells = vec![in heap; ChainSlot::Free(0); sizes.cells as usize]?;
-    let mut frames = vec![in heap; Frame::Main; sizes.first as usize]?;
-    let mut slots = vec![in heap; None; sizes.second as usize]?;
-    let mut chain = ChainStore::new(&mut cells);
-    let mut store = Shelf::new(&mut chain);
-    let (mut run, open_run) = open(
-        script,
-        &store,
-        input,
-        &mut frames,
-        &mut slots,
-        sizes.allowance,
-    );
-    let advanced = advance(&mut run, &open_run, &mut store, out, u32::MAX);
-    let closed = close(&mut run, open_run, &mut store);
-    Ok(Answer::closed(advanced.end, advanced.bytes, closed))
-}
-
+// One advance, of as many steps as are allowed, and the close.
 pub(crate) fn run_so(
     heap: Global,
     text: &[u8],
     input: &[u8],
     out: &mut [u8],
     sizes: Sizes,
-) -> Result<Answer, AllocError> {
+) -> Result<Answer, AllocError>
+    ensures ran { IfOk result (λ x. Ran input.now sizes out.old (judgement text.now sizes.nodes) x out.new) }
+    ensures same { IfErr result (λ e. out.new ≡ out.old) }
+{
     let mut nodes = vec![in heap; Node::UNUSED; sizes.nodes as usize]?;
-    match judge(text, &mut nodes) {
-        Ok(script) => one_advance(heap, &script, input, out, sizes),
+    let mut cells = vec![in heap; ChainSlot::Free(0); sizes.cells as usize]?;
+    let mut frames = vec![in heap; Frame::Main; sizes.first as usize]?;
+    let mut slots = vec![in heap; None; sizes.second as usize]?;
+    let mut chain = ChainStore::new(&mut cells);
+    let mut store = Shelf::new(&mut chain);
+    let mut asks = [Ask {
+        count: u32::MAX,
+        room: out.len(),
+        answer: None,
+    }];
+    match conduct(
+        text,
+        &mut nodes,
+        &mut store,
+        input,
+        &mut frames,
+        &mut slots,
+        sizes.allowance,
+        &mut asks,
+        out,
+    ) {
+        Ok(closed) => {
+            let Some(advanced) = asks[0].answer else {
+                unreachable()
+            };
+            Ok(Answer::closed(advanced.end, advanced.bytes, closed))
+        }
         Err(refused) => Ok(Answer::refused(refused)),
     }
 }
