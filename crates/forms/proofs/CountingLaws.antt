@@ -1,14 +1,15 @@
 -- The lists that are open while a text is passed, and the table of their numbers of parts.
-use Rattle.std.proofs.Common.{◌≡◌, ℕ, suc, ◌+◌, ◌-◌, ◌<◌, ◌≤◌, min, cond, ◌⊎◌, List, [], ◌∷◌, length, Some, None, Option, get_or, replicate, set, ap, ◌∙◌, subst, sym, inl, inr, arith, zero-add, ne_eqb}
+use Rattle.std.proofs.Common.{◌≡◌, ℕ, zero, suc, ◌+◌, ◌-◌, ◌<◌, ◌≤◌, min, cond, ◌⊎◌, List, [], ◌∷◌, length, Some, None, Option, get_or, map, replicate, set, refl, ap, ◌∙◌, subst, sym, inl, inr, arith, zero-add, ne_eqb}
 use Rattle.std.proofs.lemmas.Bool.{cases_lt, cases_eq}
-use Rattle.std.proofs.lemmas.List.{get_or-set_same, get_or-set_other, set_past, get_or-replicate, get_or_past, length-replicate}
+use Rattle.std.proofs.lemmas.List.{get_or-set_same, get_or-set_other, set_past, get_or-replicate, get_or_past, length-replicate, map-set}
 use Rattle.text.specs.Grammar.{NoBracket}
 use Rattle.text.specs.Tokens.{lexeme, Lexed, also, lexed_from}
 use Rattle.text.specs.declared.bracket.Bracket.{Bracket}
 use Rattle.text.specs.declared.token.TokenKind.{TokenKind}
 use Rattle.text.specs.declared.token.TokenKind.TheVariants as kind
-use Rattle.forms.specs.Surveys.{counted, parts_of, Known, added}
+use Rattle.forms.specs.Surveys.{counted, parts_of, told, Known, added}
 use Rattle.forms.specs.declared.counting.OpenList.{OpenList}
+use Rattle.forms.specs.declared.part_count.PartCount.{PartCount}
 use Rattle.forms.proofs.SurveyLaws.{counted_atom, not_here}
 
 -- For each open list, the newest first, the parts so far and those to come are its parts; so many brackets are open inside it.
@@ -91,3 +92,25 @@ known_none text n place parts = go (cases_lt place n)
     go : (place < n) ⊎ (n ≤ place) → get_or (replicate {A = Option ℕ} n None) place None ≡ Some parts → parts ≡ parts_of (lexed_from text place)
     go (inl h) = nothing (get_or-replicate n place None None h)
     go (inr h) = nothing (get_or_past (replicate {A = Option ℕ} n None) place None (let size : length (replicate {A = Option ℕ} n None) ≡ n = length-replicate {A = Option ℕ} n None in omega arith))
+
+-- an entry of which nothing is known
+abbrev pub unknown : PartCount
+unknown = record { code = 0 }
+
+-- what the entries tell, place by place
+pub told_at : (counts : List PartCount) (i : ℕ) → get_or (map told counts) i None ≡ told (get_or counts i unknown)
+told_at [] i = refl
+told_at (c ∷ counts) zero = refl
+told_at (c ∷ counts) (suc i) = told_at counts i
+
+-- the same of entries by what they tell
+pub told_set : (text : List ℕ) (counts : List PartCount) (i v : ℕ) (c : PartCount) → told c ≡ Some v → v ≡ parts_of (lexed_from text i) → Known text (map told counts) → Known text (map told (set counts i c))
+told_set text counts i v c tells is known =
+    subst (Known text) (ap (set (map told counts) i) (sym tells) ∙ sym (map-set told counts i c)) (known_set text (map told counts) i v is known)
+
+told_all : (n : ℕ) (c : PartCount) → map told (replicate n c) ≡ replicate n (told c)
+told_all zero c = refl
+told_all (suc n) c = ap (λ os. told c ∷ os) (told_all n c)
+
+pub told_none : (text : List ℕ) (n : ℕ) (c : PartCount) → told c ≡ None → Known text (map told (replicate n c))
+told_none text n c nothing = subst (Known text) (ap (replicate n) (sym nothing) ∙ sym (told_all n c)) (known_none text n)

@@ -5,6 +5,7 @@ use Rattle.text.specs.declared.keyword.Keyword.{Keyword}
 use Rattle.text.specs.declared.token.TokenKind.TheVariants as kind
 use Rattle.grammar.specs.Forms.{kind_head}
 use Rattle.forms.specs.declared.counting.OpenList.{OpenList}
+use Rattle.forms.specs.declared.part_count.PartCount.{PartCount}
 use Rattle.forms.specs.declared.survey.Survey.{Survey}
 
 -- a token that is no closing bracket begins a part of the list, unless a bracket is open inside the list
@@ -36,6 +37,10 @@ head_word (also t rest) = kind_head t.kind
 
 abbrev pub surveyed : Lexed → Survey
 surveyed l = record { parts = parts_of l; head = head_word l }
+
+-- the number of parts that a table's entry tells, if it tells one
+abbrev pub told : PartCount → Option ℕ
+told c = cond (c.code == 0) None (Some (c.code - 1))
 
 -- A table has, for each place where the parts of a list begin, their number or none.
 abbrev pub Known : List ℕ → List (Option ℕ) → Type 0

@@ -1,8 +1,9 @@
 // One pass over a text that counts the parts of every list.
-ghost use Rattle.std.specs.Prelude.{◌≡◌};
+ghost use Rattle.std.specs.Prelude.{◌≡◌, map};
 ghost use Rattle.stack.specs.Items.{tops};
-ghost use Rattle.forms.specs.Surveys.{Known, added};
+ghost use Rattle.forms.specs.Surveys.{Known, added, told};
 
+use super::part_count::PartCount;
 use super::sight::{Look, look_at};
 use entries::put;
 use layout::DEPTH;
@@ -28,9 +29,9 @@ fn add_part(opened: &mut Stack<'_, OpenList>)
 }
 
 // Whatever the table tells is right: the pass writes the number of parts of each list behind the bracket that opens it.
-pub(crate) fn count_lists(text: &[u8], counts: &mut [Option<u8>; 65536])
-    requires { Known text.now counts.old }
-    ensures { Known text.now counts.new }
+pub(crate) fn count_lists(text: &[u8], counts: &mut [PartCount; 65536])
+    requires { Known text.now (map told counts.old) }
+    ensures { Known text.now (map told counts.new) }
 {
     let mut room = [OpenList {
         inside: 0,
@@ -58,7 +59,7 @@ pub(crate) fn count_lists(text: &[u8], counts: &mut [Option<u8>; 65536])
             }
             Look::Close(_, after) => {
                 if let Some(list) = opened.pop() {
-                    put(counts, list.inside, Some(list.parts.min(7)));
+                    put(counts, list.inside, PartCount::of(list.parts));
                 }
                 at = after;
             }

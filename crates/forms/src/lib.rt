@@ -6,6 +6,7 @@ mod counting;
 mod expressions;
 mod form;
 mod names;
+mod part_count;
 mod patterns;
 mod sight;
 mod source;

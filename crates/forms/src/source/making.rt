@@ -9,6 +9,7 @@ ghost use Rattle.text.specs.Tokens.{Lexed, lexed_from};
 
 use super::super::atoms::wrong;
 use super::super::counting::count_lists;
+use super::super::part_count::PartCount;
 use super::super::sight::{Opened, opening_at};
 use super::super::survey::{Survey, count_parts, head_at};
 use super::Source;
@@ -20,7 +21,7 @@ impl<'t> Source<'t> {
         ensures { Makes text.now result }
     {
         scan(text)?;
-        let mut counts = [None; 65536];
+        let mut counts = [PartCount::UNKNOWN; 65536];
         count_lists(text, &mut counts);
         Ok(Source { text, counts })
     }
@@ -30,7 +31,12 @@ impl<'t> Source<'t> {
         ensures { result ≡ parts_of (lexed_from self.now.text.now place) }
     {
         // Two arms: as two closures of a `map_or_else` they would be no plainer.
-        match self.counts.get(place).copied().flatten() {
+        let count = self
+            .counts
+            .get(place)
+            .copied()
+            .unwrap_or(PartCount::UNKNOWN);
+        match count.parts() {
             Some(parts) => parts as usize,
             None => count_parts(self.text, place),
         }

@@ -1,11 +1,11 @@
-use Rattle.std.proofs.Common.{◌≡◌, ◌∷◌, false, Result, Ok, Err, ap, sym, ◌∙◌, subst, arith}
+use Rattle.std.proofs.Common.{◌≡◌, ◌∷◌, false, Result, Ok, Err, map, min, ap, sym, ◌∙◌, subst, arith}
 use Rattle.std.specs.Result.{is_err}
 use Rattle.stack.specs.Items.{tops}
 use Rattle.stack.specs.declared.full.Full.{Full}
 use Rattle.text.specs.Tokens.{lexed_from}
-use Rattle.forms.specs.Surveys.{Known}
+use Rattle.forms.specs.Surveys.{Known, told}
 use Rattle.forms.specs.declared.counting.OpenList.{OpenList}
-use Rattle.forms.proofs.CountingLaws.{Pending, pending_atom, pending_open, pending_close, known_set}
+use Rattle.forms.proofs.CountingLaws.{Pending, pending_atom, pending_open, pending_close, told_set}
 use Rattle.forms.proofs.counting.count_lists.Goals as goal
 
 pub tokens-preserved-in-Atom : goal.tokens-preserved-in-Atom
@@ -44,6 +44,6 @@ tokens-preserved-in-Some c =
     let lists = tops c.pop.new.self in
     let whole = subst (Pending text (lexed_from text c.tokens.at) 0) c.in-Some.ensures.tops inv.1 in
     let closed = pending_close text sees.0 c.in-Close.field-0 sees.1.0 (lexed_from text c.in-Close.after) c.in-Some.list lists (subst (λ l. Pending text l 0 (c.in-Some.list ∷ lists)) sees.1.1.follows whole) in (
-      subst (Known text) (sym c.put.ensures.written) (known_set text c.tokens.counts c.in-Some.list.inside _ (let least = c.min.ensures in let whole = closed.0 in omega arith) inv.0),
+      subst (λ cs. Known text (map told cs)) (sym c.put.ensures.written) (told_set text c.tokens.counts c.in-Some.list.inside (min c.in-Some.list.parts 7) _ c.of.ensures (let whole = closed.0 in omega arith) inv.0),
       closed.1,
     )
