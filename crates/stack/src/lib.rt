@@ -95,7 +95,11 @@ impl<'a, T: Copy> Stack<'a, T> {
     pub fn at_depth(&self, depth: usize) -> Option<T>
         ensures { result ≡ slice_get (tops self.now) depth }
     {
-        let place = self.len().checked_sub(depth)?.checked_sub(1)?;
+        let n = self.len();
+        if depth >= n {
+            return None;
+        }
+        let place = n - 1 - depth;
         Some(self.lent[place])
     }
 
@@ -116,7 +120,11 @@ impl<'a, T: Copy> Stack<'a, T> {
         ensures slice { elim result [ Some _ ↦ slice_of self.new ≡ slice_set (slice_of self.old) (length (items self.old) - 1 - depth) x | None ↦ slice_of self.new ≡ slice_of self.old ] }
         ensures loan { loan_of self.new ≡ loan_of self.old }
     {
-        let i = self.len().checked_sub(depth)?.checked_sub(1)?;
+        let n = self.len();
+        if depth >= n {
+            return None;
+        }
+        let i = n - 1 - depth;
         Some(mem::replace(&mut self.lent[i], x))
     }
 
