@@ -13,7 +13,7 @@ use Rattle.data.specs.declared.refusals.WalkRefusal.TheVariants.{NoFreeCell}
 use Rattle.data.specs.Trees.{Tree, Trees, built, none, more, size}
 use Rattle.data.specs.Standing.{Plain}
 use Rattle.data.specs.Taking.{Out, out_none, out_plain, out_cell}
-use Rattle.data.specs.Walks.{Drops, Copies}
+use Rattle.data.specs.Walks.{Sizes, Drops, Copies}
 use Rattle.data.proofs.Stores.{set_back}
 use Rattle.data.proofs.Outs.{not_plain, plain_once, join, tally, Two, parts_at, exchange, joined, headed}
 use Rattle.data.proofs.Keeping.{keeps_from_out, out_from_keeps}
@@ -79,6 +79,12 @@ pub alone : {cs m₀ : Cells} {v : Value} {vs : List Value} {t : Tree} {ts : Tre
 alone {v = v} {vs = vs} {t = t} {ts = ts} o = parts_at (v ∷ []) vs (more t none) ts refl o
 
 -- the walks, with other values after the one that is walked
+
+pub size_held : {entry exit m₀ : Cells} {v : Value} {r : Result ℕ WalkRefusal} {vs : List Value} {t : Tree} {ts : Trees} → Sizes entry v r exit → Out entry (v ∷ vs) (more t ts) m₀ → (r ≡ Ok (size t)) × Out exit (v ∷ vs) (more t ts) m₀
+size_held {exit = exit} {v = v} {t = t} does o =
+    let a = alone o in
+    let z = does.counts t a.mid (keeps_from_out a.mid _ _ _ a.first) in
+    (z.0, joined (out_from_keeps a.mid exit (v ∷ []) (more t none) z.1) a.second)
 
 pub drop_held : {entry exit m₀ : Cells} {v : Value} {r : Result ℕ WalkRefusal} {vs : List Value} {t : Tree} {ts : Trees} → Drops entry v r exit → Out entry (v ∷ vs) (more t ts) m₀ → (r ≡ Ok (size t)) × Out exit vs ts m₀
 drop_held {m₀ = m₀} {vs = vs} {t = t} {ts = ts} does o =
