@@ -16,6 +16,7 @@
 mod agreeing;
 mod answer;
 mod case;
+mod expected;
 mod hex;
 mod line;
 mod run;
@@ -23,5 +24,6 @@ mod tally;
 mod trial;
 
 pub use answer::{Answer, Refused};
+pub use expected::Expected;
 pub use run::run_cases;
 pub use trial::{Found, Trial};

@@ -5,6 +5,7 @@ ghost use Rattle.case_files.specs.Agreeing.{Agrees};
 use super::agreeing::agrees;
 use super::answer::Answer;
 use super::case::Case;
+use super::expected::Expected;
 use super::line::{Line, parse_line};
 use super::tally::Tally;
 use super::trial::{Found, Trial};
@@ -103,7 +104,11 @@ impl<'w, T: Trial + Drop> Run<'w, T> {
     }
 
     fn end_case(&mut self, rt: &HostRuntime, expected: Answer) -> io::Result<()> {
-        let found = self.trial.found(rt.alloc(), &self.case.text)?;
+        let asked = Expected {
+            answer: expected,
+            listed: !self.case.listing.is_empty(),
+        };
+        let found = self.trial.found(rt.alloc(), &self.case.text, asked)?;
         if !self.judge(&found, expected) {
             self.print_wrong(rt, &found)?;
         }
@@ -122,7 +127,11 @@ impl<'w, T: Trial + Drop> Run<'w, T> {
             Err(refused) => {
                 let number = refused.number;
                 let place = refused.place;
-                println!(rt; "line {line}: wrong, found refused {number} {place}\n{listing}")
+                println!(rt; "line {line}: wrong, found refused {number} {place}")?;
+                if listing.is_empty() {
+                    return Ok(());
+                }
+                println!(rt; "{listing}")
             }
         }
     }

@@ -1,5 +1,5 @@
 // What the check finds of the text of a case.
-use case_files::{Answer, Found, Refused, Trial};
+use case_files::{Answer, Expected, Found, Refused, Trial};
 use checking::check;
 use entries::put;
 use first_uses::explain_check;
@@ -114,7 +114,12 @@ impl Trial for Scripts {
         Some(())
     }
 
-    fn found(&mut self, heap: Global, text: &[u8]) -> Result<Found, AllocError> {
+    fn found(
+        &mut self,
+        heap: Global,
+        text: &[u8],
+        _expected: Expected,
+    ) -> Result<Found, AllocError> {
         let mut nodes = vec![in heap; Node::UNUSED; self.lent]?;
         let changed = self.changed;
         *self = Scripts::new();

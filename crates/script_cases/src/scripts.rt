@@ -1,6 +1,6 @@
 // What reading finds of the text of a case.
 use super::rows::rows_of;
-use case_files::{Found, Refused, Trial};
+use case_files::{Expected, Found, Refused, Trial};
 use layout::{NODES, Node, NodeForm};
 use parser::{Script, is_unused, read};
 use std::alloc::{AllocError, Global};
@@ -57,7 +57,12 @@ impl Trial for Scripts {
         Some(())
     }
 
-    fn found(&mut self, heap: Global, text: &[u8]) -> Result<Found, AllocError> {
+    fn found(
+        &mut self,
+        heap: Global,
+        text: &[u8],
+        _expected: Expected,
+    ) -> Result<Found, AllocError> {
         let mut nodes = vec![in heap; USED; self.lent]?;
         self.lent = NODES;
         match read(text, &mut nodes) {

@@ -1,6 +1,6 @@
 // What the scan finds of the text of a case.
 use super::described::listing;
-use case_files::{Found, Refused, Trial};
+use case_files::{Expected, Found, Refused, Trial};
 use std::alloc::{AllocError, Global};
 use text::scan;
 
@@ -13,18 +13,22 @@ impl Trial for Tokens {
         None
     }
 
-    fn found(&mut self, heap: Global, text: &[u8]) -> Result<Found, AllocError> {
-        match scan(text) {
-            Ok(count) => Ok(Found {
-                answer: Ok(count),
-                listing: listing(heap, text)?,
-                complaint: None,
-            }),
-            Err(refused) => Ok(Found {
-                answer: Err(Refused::from(refused)),
-                listing: String::new(heap),
-                complaint: None,
-            }),
-        }
+    fn found(
+        &mut self,
+        heap: Global,
+        text: &[u8],
+        expected: Expected,
+    ) -> Result<Found, AllocError> {
+        let answer = scan(text).map_err(Refused::from);
+        let listing = if answer.is_err() || expected.needs_no_listing(answer) {
+            String::new(heap)
+        } else {
+            listing(heap, text)?
+        };
+        Ok(Found {
+            answer,
+            listing,
+            complaint: None,
+        })
     }
 }
